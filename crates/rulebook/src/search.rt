@@ -1,0 +1,27 @@
+// The search for the first record that agrees with a given one, over any kind of record with a stated sameness.
+ghost use mathlib.Core.Bool.{Bool};
+ghost use mathlib.Core.Path.{_≡_};
+ghost use Rattle.rulebook.specs.Search.{firstOf, First};
+
+// A kind of record of which any two agree or do not.
+pub trait Same {
+    // Whether two records agree.
+    ghost same: { Self → Self → Bool };
+
+    // Decides it.
+    fn agrees(&self, other: &Self) -> bool
+        ensures { λ r. ⌜ r ≡ same (now (self .entry)) (now (other .entry)) ⌝ };
+}
+
+// The lowest place of `records`, counted from 0, whose record agrees with `wanted`, or none where none agrees.
+pub fn first_place<T: Same>(records: &[T], wanted: &T) -> Option<usize>
+    ensures value { λ r. ⌜ r ≡ firstOf (λ x. same x (now (wanted .entry))) (now (records .entry)) ⌝ }
+    ensures first { λ r. ⌜ First (λ x. same x (now (wanted .entry))) (now (records .entry)) r ⌝ }
+{
+    for (place, record) in records.iter().enumerate() {
+        if record.agrees(wanted) {
+            return Some(place);
+        }
+    }
+    None
+}
