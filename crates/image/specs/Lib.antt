@@ -1,0 +1,4 @@
+pub mod Formed
+pub mod Layout
+pub mod Plan
+pub mod Refusals
