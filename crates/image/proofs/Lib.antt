@@ -1,2 +1,5 @@
 pub mod Faults
 pub mod Questions
+pub mod Words
+pub mod Written
+pub mod Rewritten

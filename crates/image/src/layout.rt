@@ -42,11 +42,13 @@ pub(crate) fn heading_good(word: u32) -> bool
 pub(crate) fn rule_good(modes: u8, screens: u8, word: u32) -> bool
     ensures { λ r. ⌜ r ≡ ruleGood modes screens word ⌝ }
 {
+    let mode = byte(word, 0);
+    let screen = byte(word, 8);
     let answers = bits(word, 22, 4);
     kind(word) == 2
         && bits(word, 26, 2) == 0
-        && byte(word, 0) < modes
-        && byte(word, 8) < screens
+        && mode < modes
+        && screen < screens
         && 1 <= answers
         && answers <= 8
 }

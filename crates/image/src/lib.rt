@@ -1,9 +1,13 @@
 // Plan images: the layout of their words, the check of a plan, and a rule book that reads a checked plan in place.
+mod format;
 mod image;
 mod layout;
 mod places;
 mod refusal;
+#[cfg(test)]
+mod tests;
 
+pub use format::most_rules;
 pub use image::Image;
 pub use image::book::ImageBook;
 pub use refusal::Refusal;

@@ -2,15 +2,13 @@
 use mathlib.Core.Path.{_≡_, refl, sym, ap, _∙_}
 use mathlib.Core.Bool.{Bool, true, false, cond}
 use mathlib.Core.List.{List, [], _∷_}
-use Prim.Native.Nat.{ℕ, zero, suc, _+_, _<_}
+use Prim.Native.Nat.{ℕ, zero, suc, _<_}
 use native.Mathlib.Omega.{arith}
-use lib.ListN.{length, getD}
+use lib.ListN.{length}
 use Rattle.std.specs.Options.{mapped}
 use Rattle.std.specs.declared.option.Option.{Option}
 use Rattle.std.specs.declared.option.Option.the-variants.{Some, None}
 use Rattle.std.proofs.shelf.Tests.{cond-true, cond-false}
-use Rattle.std.proofs.shelf.Lists.{getD-read}
-use borrow.Author.Count.{below-more}
 use Rattle.rulebook.specs.Search.{firstOf, First, FailsBelow}
 
 module _ {X : Type 0} (p : X → Bool) where
@@ -30,12 +28,3 @@ module _ {X : Type 0} (p : X → Bool) where
   first-value (x ∷ xs) (Some (suc k)) f =
       later x xs (Some k) (f .2 0 x (omega arith))
       (first-value xs (Some k) (omega (arith, f .0), f .1, fails-tail x xs k (f .2)))
-
-  -- one place more at which the test fails, by what was read there
-  pub fails-more : (xs : List X) (k : ℕ) (x : X) → FailsBelow p xs k → k < length xs → x ≡ getD xs k x → p x ≡ false → FailsBelow p xs (k + 1)
-  fails-more xs k x f within read fails i d h =
-      below-more (λ j. p (getD xs j d) ≡ false) k (λ j below. f j d below) (ap p (sym (getD-read xs k x within read d)) ∙ fails) i h
-
-  -- a place at which the test holds, by what was read there, after those at which it fails
-  pub first-found : (xs : List X) (k : ℕ) (x : X) → FailsBelow p xs k → k < length xs → x ≡ getD xs k x → p x ≡ true → First p xs (Some k)
-  first-found xs k x f within read holds = (within, λ d. ap p (sym (getD-read xs k x within read d)) ∙ holds, f)

@@ -18,8 +18,15 @@ pub fn first_place<T: Same>(records: &[T], wanted: &T) -> Option<usize>
     ensures value { λ r. ⌜ r ≡ firstOf (λ x. same x (now (wanted .entry))) (now (records .entry)) ⌝ }
     ensures first { λ r. ⌜ First (λ x. same x (now (wanted .entry))) (now (records .entry)) r ⌝ }
 {
-    for (place, record) in records.iter().enumerate() {
-        if record.agrees(wanted) {
+    scan(records, wanted)
+}
+
+// The same by the relation alone, of which there is one answer.
+fn scan<T: Same>(records: &[T], wanted: &T) -> Option<usize>
+    ensures { λ r. ⌜ First (λ x. same x (now (wanted .entry))) (now (records .entry)) r ⌝ }
+{
+    for place in 0..records.len() {
+        if records[place].agrees(wanted) {
             return Some(place);
         }
     }

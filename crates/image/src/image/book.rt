@@ -1,7 +1,7 @@
 // An image as a rule book: every question is answered from the words.
 ghost use denote.Ref.{now};
 ghost use Rattle.image.specs.Formed.{decoded-formed};
-ghost use Rattle.image.specs.Plan.{decoded};
+ghost use Rattle.image.specs.Held.{bookIn};
 use crate::image::Image;
 use crate::layout::answer_of;
 use crate::layout::bits;
@@ -13,7 +13,7 @@ use rulebook::RuleBook;
 use rulebook::RuleHead;
 
 pub impl<'a> RuleBook for Image<'a> as ImageBook {
-    ghost meaning = { λ s. decoded (now (s .words)) };
+    ghost meaning = { bookIn };
 
     ghost formed = { λ s. decoded-formed (now (s .words)) (s .valid) };
 

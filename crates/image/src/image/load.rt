@@ -1,12 +1,15 @@
 // Making an image, and loading words into it.
-ghost use mathlib.Core.Bool.{cond};
-ghost use mathlib.Core.List.{_∷_, []};
+ghost use mathlib.Core.Bool.{true, cond};
 ghost use mathlib.Core.Path.{_≡_};
 ghost use Rattle.std.specs.Results.{isOk};
 ghost use Prim.Native.Nat.{_+_, _*_, _<_};
 ghost use lib.ListN.{length};
+ghost use Rattle.std.specs.declared.result.Result.the-variants.{Ok};
+ghost use Rattle.rulebook.specs.Book.{Book};
+ghost use Rattle.image.specs.Encode.{encoded, Holds};
+ghost use Rattle.image.specs.Held.{bookIn, blank};
 ghost use Rattle.image.specs.Layout.{rulesIn};
-ghost use Rattle.image.specs.Plan.{heading, answerPlace, answerFault, answersFault, ruleFault, planFault, outcome};
+ghost use Rattle.image.specs.Plan.{heading, answerPlace, answerFault, answersFault, ruleFault, planFault, outcome, decoded};
 use crate::image::Image;
 use crate::layout::answer_good;
 use crate::layout::bits;
@@ -23,15 +26,19 @@ static BLANK: [u32; 1] = [0x1000_0101];
 impl<'a> Image<'a> {
     // An image with one mode, one screen and no rules.
     pub fn new() -> Image<'a>
-        ensures { λ r. ⌜ now (r .words) ≡ 0x10000101 ∷ [] ⌝ }
+        ensures { λ r. ⌜ bookIn r ≡ blank ⌝ }
     {
         Image { words: &BLANK }
     }
 
-    // Replaces what the image holds by these words and answers their number of rules. A refused load leaves the image as it was.
+    // Replaces what the image holds by the plan that these words are, and answers its number of rules. A refused load leaves the image as it was.
+    // The words that are written for a book are accepted and mean that book, and no other words are accepted.
     pub fn load(&mut self, words: &'a [u32]) -> Result<usize, Refusal>
         ensures value { λ r. ⌜ r ≡ outcome (now (words .entry)) ⌝ }
-        ensures after { λ r. ⌜ now (now (self .exit) .words) ≡ cond (isOk r) (now (words .entry)) (now (now (self .entry) .words)) ⌝ }
+        ensures words { λ r. ⌜ now (now (self .exit) .words) ≡ cond (isOk r) (now (words .entry)) (now (now (self .entry) .words)) ⌝ }
+        ensures meaning { λ r. ⌜ bookIn (now (self .exit)) ≡ cond (isOk r) (decoded (now (words .entry))) (bookIn (now (self .entry))) ⌝ }
+        ensures reads { λ r. ⌜ ((b : Book) → Holds 1024 b → now (words .entry) ≡ encoded b → (r ≡ Ok (length (b .rules))) × (bookIn (now (self .exit)) ≡ b)) ⌝ }
+        ensures writes { λ r. ⌜ (isOk r ≡ true → encoded (bookIn (now (self .exit))) ≡ now (words .entry)) ⌝ }
     {
         let rules = check(words)?;
         self.words = words;
