@@ -2,7 +2,7 @@
 use mathlib.Core.Path.{_≡_, refl}
 use mathlib.Core.Bool.{Bool, true, false, cond}
 use mathlib.Core.List.{List, [], _∷_, map}
-use Prim.Native.Nat.{ℕ, zero, suc, _+_, _*_}
+use Prim.Native.Nat.{ℕ, zero, suc, _+_, _*_, min}
 use lib.Dec.{eqb, ltb}
 use lib.ListN.{length, getD}
 use Rattle.std.specs.Iters.{counting}
@@ -19,6 +19,18 @@ use Rattle.image.specs.declared.refusal.Refusal.the-variants.{NoWords, BadHead
 -- word 0
 abbrev pub heading : List ℕ → ℕ
 heading ws = getD ws 0 0
+
+-- how many words of an input are the image: the heading and nine for each rule that it counts, or all where there are fewer
+abbrev pub imageLength : List ℕ → ℕ
+imageLength ws = min (length ws) (1 + 9 * rulesIn (heading ws))
+
+-- a heading that counts no rules is an image by itself
+example-alone : imageLength (0x10000302 ∷ 5 ∷ 6 ∷ []) ≡ 1
+example-alone = refl
+
+-- one rule wants ten words, and two are there
+example-short : imageLength (0x10010302 ∷ 5 ∷ []) ≡ 2
+example-short = refl
 
 -- where the word of rule k stands: after the heading each rule takes nine words
 abbrev pub rulePlace : ℕ → ℕ

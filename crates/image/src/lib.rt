@@ -2,6 +2,7 @@
 mod format;
 mod image;
 mod layout;
+mod parts;
 mod places;
 mod refusal;
 #[cfg(test)]
@@ -10,4 +11,7 @@ mod tests;
 pub use format::most_rules;
 pub use image::Image;
 pub use image::book::ImageBook;
+pub use parts::split;
 pub use refusal::Refusal;
+pub use refusal::RefusalDebug;
+pub use refusal::RefusalPartialEq;

@@ -1,7 +1,7 @@
 // Each refusal of a load at its edge, and the questions to a loaded plan.
 use crate::Image;
 use crate::ImageBook;
-use crate::Refusal;
+use crate::split;
 use rulebook::Answer;
 use rulebook::AnswerDebug;
 use rulebook::AnswerPartialEq;
@@ -142,4 +142,20 @@ fn questions() -> Result<(), Fail> {
     check_eq(image.answer(2, 2), None)?;
     check_eq(image.answer(4, 0), None)?;
     check_eq(image.answer(usize::MAX, usize::MAX), None)
+}
+
+#[test]
+fn the_jobs_follow_the_image() -> Result<(), Fail> {
+    let words = [0x1000_0302, 5, 6];
+    let (image, jobs) = split(&words);
+    check_eq(image, &[0x1000_0302])?;
+    check_eq(jobs, &[5, 6])
+}
+
+#[test]
+fn a_short_image_leaves_no_jobs() -> Result<(), Fail> {
+    let words = [0x1001_0302, 5];
+    let (image, jobs) = split(&words);
+    check_eq(image, &[0x1001_0302, 5])?;
+    check(jobs.is_empty())
 }

@@ -1,8 +1,8 @@
--- The words of an input, by its bytes, and how many of its words are the plan's image.
+-- The words of an input, by its bytes.
 -- An input is a list of bytes; a word is a number of four bytes, least first.
 use mathlib.Core.Path.{_≡_, refl}
 use mathlib.Core.List.{List, [], _∷_, map}
-use Prim.Native.Nat.{ℕ, _+_, _*_, _/_, _%_, _^_, min}
+use Prim.Native.Nat.{ℕ, _+_, _*_, _/_, _^_, min}
 use lib.ListN.{length, getD}
 use Rattle.std.specs.Iters.{counting}
 
@@ -22,20 +22,3 @@ wordsOf bytes = map (wordAt bytes) (counting 0 (wholeWords bytes))
 -- five bytes are one word, and the fifth is dropped
 example-words : wordsOf (0x02 ∷ 0x03 ∷ 0x04 ∷ 0x10 ∷ 0x07 ∷ []) ≡ 0x10040302 ∷ []
 example-words = refl
-
--- A heading gives the number of rules in its bits 27 to 16.
-abbrev pub rulesField : ℕ → ℕ
-rulesField heading = heading / 2 ^ 16 % 2 ^ 12
-
--- The image is the heading and nine words for each of its rules, or all the words where there are fewer.
-abbrev pub imageLength : List ℕ → ℕ
-imageLength [] = 0
-imageLength (heading ∷ rest) = min (length (heading ∷ rest)) (1 + 9 * rulesField heading)
-
--- a heading that gives no rules is an image by itself
-example-alone : imageLength (0x10000302 ∷ 5 ∷ 6 ∷ []) ≡ 1
-example-alone = refl
-
--- one rule wants ten words, and two are there
-example-short : imageLength (0x10010302 ∷ 5 ∷ []) ≡ 2
-example-short = refl

@@ -1,10 +1,10 @@
-// From the bytes of an input to its words, and from the words to the plan's image and the job words after it.
+// From the bytes of an input to its words.
 ghost use mathlib.Core.Path.{_≡_};
 ghost use Prim.Native.Nat.{_+_, _*_, _<_};
-ghost use lib.ListN.{length, take, drop};
+ghost use lib.ListN.{length};
 ghost use Rattle.std.specs.Of.Vec.{vec-items};
 ghost use Rattle.std.specs.Vec.{made};
-ghost use Rattle.input.specs.Words.{wordAt, wordsOf, rulesField, imageLength};
+ghost use Rattle.input.specs.Words.{wordAt, wordsOf};
 use std::alloc::AllocError;
 use std::alloc::Global;
 
@@ -32,31 +32,6 @@ fn word_at(bytes: &[u8], i: usize) -> u32
     u32::from_le_bytes([bytes[at], bytes[at + 1], bytes[at + 2], bytes[at + 3]])
 }
 
-// The words of the plan's image, and the job words after them.
-pub fn split(words: &[u32]) -> (&[u32], &[u32])
-    ensures image { λ r. ⌜ now (r .0) ≡ take (imageLength (now (words .entry))) (now (words .entry)) ⌝ }
-    ensures jobs { λ r. ⌜ now (r .1) ≡ drop (imageLength (now (words .entry))) (now (words .entry)) ⌝ }
-{
-    words.split_at(image_length(words))
-}
-
-// How many of the words are the image: one, and nine for each rule that the first word counts, or all where there are fewer.
-fn image_length(words: &[u32]) -> usize
-    ensures { λ r. ⌜ r ≡ imageLength (now (words .entry)) ⌝ }
-{
-    let [heading, ..] = words else {
-        return 0;
-    };
-    words.len().min(1 + 9 * rules_field(*heading))
-}
-
-// The number of rules that a heading gives.
-fn rules_field(heading: u32) -> usize
-    ensures { λ r. ⌜ r ≡ rulesField heading ⌝ }
-{
-    (heading >> 16 & 0xfff) as usize
-}
-
 #[cfg(test)]
 mod tests {
     use super::*;
@@ -73,21 +48,5 @@ mod tests {
         let bytes = vec![in rt.alloc(); 0u8; 4 * MOST_WORDS + 4]?;
         let read = words(rt.alloc(), &bytes)?;
         check_eq(read.len(), MOST_WORDS)
-    }
-
-    #[test]
-    fn the_jobs_follow_the_image() -> Result<(), Fail> {
-        let words = [0x1000_0302, 5, 6];
-        let (image, jobs) = split(&words);
-        check_eq(image, &[0x1000_0302])?;
-        check_eq(jobs, &[5, 6])
-    }
-
-    #[test]
-    fn a_short_image_leaves_no_jobs() -> Result<(), Fail> {
-        let words = [0x1001_0302, 5];
-        let (image, jobs) = split(&words);
-        check_eq(image, &[0x1001_0302, 5])?;
-        check(jobs.is_empty())
     }
 }

@@ -1,4 +1,4 @@
-// The text that shows a plan to a person, over any rule book.
+// The text that shows a plan to a person: the listing of any rule book, and the whole text for an input.
 ghost use mathlib.Core.Path.{_≡_};
 ghost use mathlib.Core.List.{_++_};
 ghost use Rattle.std.specs.Of.String.{string-bytes};
@@ -7,6 +7,10 @@ ghost use Rattle.std.specs.declared.option.Option.the-variants.{Some};
 ghost use Rattle.std.specs.shelf.Maps.{nth};
 ghost use Rattle.listing.specs.Pieces.{answersIn, lineIn};
 ghost use Rattle.listing.specs.Text.{answerText, answersText, firstLine, ruleLines, listed};
+mod whole;
+
+pub use whole::show;
+
 use rulebook::Answer;
 use rulebook::RuleBook;
 use rulebook::Screens;
