@@ -3,3 +3,4 @@ pub mod Questions
 pub mod Words
 pub mod Written
 pub mod Rewritten
+pub mod Loads

@@ -11,5 +11,13 @@ pub fn most_rules() -> usize
     ensures reads { λ r. ⌜ ReadsBack r ⌝ }
     ensures writes { λ _. ⌜ WritesBack ⌝ }
 {
+    round_trip();
     MOST_RULES
+}
+
+// What the limit rests on.
+fn round_trip()
+    ensures reads { λ _. ⌜ ReadsBack 1024 ⌝ }
+    ensures writes { λ _. ⌜ WritesBack ⌝ }
+{
 }

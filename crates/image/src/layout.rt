@@ -1,7 +1,7 @@
 // The fields of a plan's words, and the tests of the three kinds of word.
 ghost use mathlib.Core.Path.{_≡_};
 ghost use Prim.Native.Nat.{_<_};
-ghost use Rattle.image.specs.Layout.{field, kindOf, headingGood, ruleGood, screenGood, answerGood, answerOf};
+ghost use Rattle.image.specs.Layout.{field, kindOf, rulesIn, headingGood, ruleGood, screenGood, answerGood, answerOf};
 use rulebook::Answer;
 use rulebook::Screens;
 
@@ -29,13 +29,20 @@ pub(crate) fn kind(word: u32) -> u32
     word >> 28
 }
 
+// The number of rules that a heading counts.
+pub(crate) fn rules_in(heading: u32) -> usize
+    ensures { λ r. ⌜ r ≡ rulesIn heading ⌝ }
+{
+    bits(heading, 16, 12) as usize
+}
+
 // A heading within the bounds of a plan.
 pub(crate) fn heading_good(word: u32) -> bool
     ensures { λ r. ⌜ r ≡ headingGood word ⌝ }
 {
     let modes = byte(word, 0);
     let screens = byte(word, 8);
-    kind(word) == 1 && 1 <= modes && modes <= 60 && 1 <= screens && screens <= 128 && bits(word, 16, 12) <= 1024
+    kind(word) == 1 && 1 <= modes && modes <= 60 && 1 <= screens && screens <= 128 && rules_in(word) <= 1024
 }
 
 // A rule word within the bounds of a plan with so many modes and screens.

@@ -2,7 +2,7 @@
 ghost use mathlib.Core.Path.{_≡_};
 ghost use lib.ListN.{take, drop};
 ghost use Rattle.image.specs.Plan.{imageLength};
-use crate::layout::bits;
+use crate::layout::rules_in;
 
 // The words of the plan's image, and the job words after them.
 pub fn split(words: &[u32]) -> (&[u32], &[u32])
@@ -19,5 +19,5 @@ fn image_length(words: &[u32]) -> usize
     let [heading, ..] = words else {
         return 0;
     };
-    words.len().min(1 + 9 * bits(*heading, 16, 12) as usize)
+    words.len().min(1 + 9 * rules_in(*heading))
 }

@@ -43,7 +43,7 @@ ruleLines k (r ∷ rest) = ruleLine k r ++ ruleLines (k + 1) rest
 
 -- The first line: how many modes, screens and rules the book has.
 abbrev pub firstLine : Book → List ℕ
-firstLine b = codes "modes " ++ decimal (b .modes) ++ codes ", screens " ++ decimal (b .screens) ++ codes ", rules " ++ decimal (length (b .rules)) ++ newline
+firstLine b = codes "modes " ++ (decimal (b .modes) ++ (codes ", screens " ++ (decimal (b .screens) ++ (codes ", rules " ++ (decimal (length (b .rules)) ++ newline)))))
 
 -- The text of a book: the first line, then a line for each rule, numbered from 0.
 abbrev pub listed : Book → List ℕ

@@ -16,7 +16,7 @@ use Rattle.listing.specs.Text.{newline, listed}
 
 -- A refused load is told by its number and its place.
 abbrev pub refusalLine : Refusal → List ℕ
-refusalLine r = codes "load !" ++ decimal (numberOf r) ++ codes " " ++ decimal (placeOf r) ++ newline
+refusalLine r = codes "load !" ++ (decimal (numberOf r) ++ (codes " " ++ (decimal (placeOf r) ++ newline)))
 
 -- After a load: the listing of the book, or the refusal's line alone.
 abbrev pub loadText : Result ℕ Refusal → Book → List ℕ

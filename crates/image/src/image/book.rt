@@ -6,6 +6,7 @@ use crate::image::Image;
 use crate::layout::answer_of;
 use crate::layout::bits;
 use crate::layout::byte;
+use crate::layout::rules_in;
 use crate::places::answer_word;
 use crate::places::rule_word;
 use rulebook::Answer;
@@ -26,7 +27,7 @@ pub impl<'a> RuleBook for Image<'a> as ImageBook {
     }
 
     fn rules(&self) -> usize {
-        bits(self.words[0], 16, 12) as usize
+        rules_in(self.words[0])
     }
 
     fn rule(&self, k: usize) -> Option<RuleHead> {

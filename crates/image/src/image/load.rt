@@ -16,6 +16,7 @@ use crate::layout::bits;
 use crate::layout::byte;
 use crate::layout::heading_good;
 use crate::layout::rule_good;
+use crate::layout::rules_in;
 use crate::places::answer_word;
 use crate::places::rule_word;
 use crate::refusal::Refusal;
@@ -39,6 +40,14 @@ impl<'a> Image<'a> {
         ensures meaning { λ r. ⌜ bookIn (now (self .exit)) ≡ cond (isOk r) (decoded (now (words .entry))) (bookIn (now (self .entry))) ⌝ }
         ensures reads { λ r. ⌜ ((b : Book) → Holds 1024 b → now (words .entry) ≡ encoded b → (r ≡ Ok (length (b .rules))) × (bookIn (now (self .exit)) ≡ b)) ⌝ }
         ensures writes { λ r. ⌜ (isOk r ≡ true → encoded (bookIn (now (self .exit))) ≡ now (words .entry)) ⌝ }
+    {
+        self.hold(words)
+    }
+
+    // The same, by what the words say alone.
+    fn hold(&mut self, words: &'a [u32]) -> Result<usize, Refusal>
+        ensures value { λ r. ⌜ r ≡ outcome (now (words .entry)) ⌝ }
+        ensures words { λ r. ⌜ now (now (self .exit) .words) ≡ cond (isOk r) (now (words .entry)) (now (now (self .entry) .words)) ⌝ }
     {
         let rules = check(words)?;
         self.words = words;
@@ -109,7 +118,7 @@ fn check(words: &[u32]) -> Result<usize, Refusal>
     if !heading_good(*first) {
         return Err(Refusal::BadHeading);
     }
-    let rules = bits(*first, 16, 12) as usize;
+    let rules = rules_in(*first);
     if words.len() != 1 + 9 * rules {
         return Err(Refusal::WrongLength(words.len()));
     }

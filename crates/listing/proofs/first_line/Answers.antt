@@ -1,7 +1,0 @@
-use mathlib.Core.List.{append-assoc}
-use borrow.Author.Needs.{needs}
-use Rattle.std.proofs.shelf.Results.{made-weaker}
-use Rattle.listing.proofs.first_line.Needs as need
-
-pub returns : need.returns
-returns g c = made-weaker (c .format .result) _ _ (λ t e. search (needs, append-assoc)) (c .format .ensures .made)
