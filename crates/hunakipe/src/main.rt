@@ -6,7 +6,9 @@ use std::io::Read;
 // At most the bytes of the most words, up to the input's end.
 fn read_input(rt: &LibcRuntime) -> Result<Vec<u8>, AnyError> {
     let mut bytes = Vec::new(rt.alloc());
-    rt.stdin().take(4 * MOST_WORDS as u64).read_to_end(&mut bytes)?;
+    rt.stdin()
+        .take(4 * MOST_WORDS as u64)
+        .read_to_end(&mut bytes)?;
     Ok(bytes)
 }
 

@@ -62,12 +62,12 @@ module _ (ws : List ℕ) (ok : accepted ws ≡ true) where
     answers-rewritten j m =
         ⊎-elim
         (λ used.
-          answer-there (decodedRule ws k) j (omega (arith, answer-number))
-          ∙ ap answerWordOf (answer-at j used)
-          ∙ answer-rewritten (modesIn (heading ws)) (screensIn (heading ws)) (answerWord ws k j) (passed .rules k l .answers j m .used used))
+        answer-there (decodedRule ws k) j (omega (arith, answer-number))
+        ∙ ap answerWordOf (answer-at j used)
+        ∙ answer-rewritten (modesIn (heading ws)) (screensIn (heading ws)) (answerWord ws k j) (passed .rules k l .answers j m .used used))
         (λ unused.
-          answer-lacking (decodedRule ws k) j (omega (arith, answer-number)) m
-          ∙ sym (passed .rules k l .answers j m .unused unused))
+        answer-lacking (decodedRule ws k) j (omega (arith, answer-number)) m
+        ∙ sym (passed .rules k l .answers j m .unused unused))
         (cases-lt j (answersIn (ruleWord ws k)))
 
     -- word i of the nine words of rule k

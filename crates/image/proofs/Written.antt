@@ -169,21 +169,21 @@ module _ (b : Book) (h : Holds 1024 b) where
       let good : Bool = answerGood (modesIn (headingWordOf b)) (screensIn (headingWordOf b)) w in
       let number = answer-count k l in
       let fine : cond (ltb j n) good (eqb w 0) ≡ true =
-        ⊎-elim
-        (λ here.
-          cond-true (ltb j n) good (eqb w 0) (lt-ltb j n here)
-          ∙ rw (fields .modes, fields .screens, used-word k l j (omega arith))
-          (answer-written (b .modes) (b .screens) (formed .few-modes) (formed .few-screens) (getD (rule k .answers) j no-answer) (answer-fits k l j (omega arith))))
-        (λ past.
-          cond-false (ltb j n) good (eqb w 0) (le-ltb j n past)
-          ∙ eq-eqb w 0 (answer-word k j l m ∙ answer-lacking (rule k) j (omega arith) m))
-        (cases-lt j n) in
+      ⊎-elim
+      (λ here.
+      cond-true (ltb j n) good (eqb w 0) (lt-ltb j n here)
+      ∙ rw (fields .modes, fields .screens, used-word k l j (omega arith))
+      (answer-written (b .modes) (b .screens) (formed .few-modes) (formed .few-screens) (getD (rule k .answers) j no-answer) (answer-fits k l j (omega arith))))
+      (λ past.
+      cond-false (ltb j n) good (eqb w 0) (le-ltb j n past)
+      ∙ eq-eqb w 0 (answer-word k j l m ∙ answer-lacking (rule k) j (omega arith) m))
+      (cases-lt j n) in
       cond-true (cond (ltb j n) good (eqb w 0)) None (Some (BadAnswer (answerPlace k j))) fine
 
   rule-faultless : (k : ℕ) → k < length (b .rules) → ruleFault (encoded b) k ≡ None
   rule-faultless k l =
       let good : ruleGood (modesIn (headingWordOf b)) (screensIn (headingWordOf b)) (ruleWord (encoded b) k) ≡ true =
-        rw (fields .modes, fields .screens, rule-word k l) (rule-written (b .modes) (b .screens) (formed .few-modes) (formed .few-screens) (rule k) (fits k l)) in
+      rw (fields .modes, fields .screens, rule-word k l) (rule-written (b .modes) (b .screens) (formed .few-modes) (formed .few-screens) (rule k) (fits k l)) in
       cond-true _ (answersFault (encoded b) k) (Some (BadRule (rulePlace k))) good ∙ none-each (answerFault (encoded b) k) 8 (λ j m. answer-faultless k j l m)
 
   plan-faultless : planFault (encoded b) ≡ None
@@ -193,10 +193,10 @@ module _ (b : Book) (h : Holds 1024 b) where
   book-accepted =
       let len : length (encoded b) ≡ 1 + 9 * rulesIn (headingWordOf b) = omega (arith, fields .rules, length-joined ruleWords (b .rules) nines) in
       let refusal : refusalOf (encoded b) ≡ None =
-        cond-false (eqb (length (encoded b)) 0) _ _ (ne-eqb (length (encoded b)) 0 (λ e. omega arith))
-        ∙ cond-true (headingGood (headingWordOf b)) _ (Some BadHeading) (heading-written b h)
-        ∙ cond-true (eqb (length (encoded b)) (1 + 9 * rulesIn (headingWordOf b))) (planFault (encoded b)) _ (eq-eqb (length (encoded b)) (1 + 9 * rulesIn (headingWordOf b)) len)
-        ∙ plan-faultless in
+      cond-false (eqb (length (encoded b)) 0) _ _ (ne-eqb (length (encoded b)) 0 (λ e. omega arith))
+      ∙ cond-true (headingGood (headingWordOf b)) _ (Some BadHeading) (heading-written b h)
+      ∙ cond-true (eqb (length (encoded b)) (1 + 9 * rulesIn (headingWordOf b))) (planFault (encoded b)) _ (eq-eqb (length (encoded b)) (1 + 9 * rulesIn (headingWordOf b)) len)
+      ∙ plan-faultless in
       ap (λ (o : Option Refusal). unless o (rulesIn (headingWordOf b))) refusal ∙ ap (λ (n : ℕ). Ok n) (fields .rules)
 
 pub reads-back : ReadsBack 1024

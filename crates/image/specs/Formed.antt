@@ -100,9 +100,10 @@ module _ (ws : List ℕ) where
 -- what holds of f at each index holds of each element of the list made from f
 all-counting : {X : Type 0} (Q : X → Type 0) (f : ℕ → X) (a n : ℕ) → ((k : ℕ) → k < n → Q (f (a + k))) → All Q (map f (counting a n))
 all-counting Q f a zero h = tt
-all-counting {X} Q f a (suc n) h =
-    (rw add-zero at (h 0 (omega arith)),
-    all-counting Q f (a + 1) n (λ k l. let place : a + suc k ≡ a + 1 + k = omega arith in subst (λ (i : ℕ). Q (f i)) place (h (suc k) (omega arith))))
+all-counting {X} Q f a (suc n) h = (
+  rw add-zero at (h 0 (omega arith)),
+  all-counting Q f (a + 1) n (λ k l. let place : a + suc k ≡ a + 1 + k = omega arith in subst (λ (i : ℕ). Q (f i)) place (h (suc k) (omega arith))),
+)
 
 screens-fit : (G count a b : ℕ) → count ≤ 2 → screenGood G (ltb 0 count) a ≡ true → screenGood G (ltb 1 count) b ≡ true → ScreensFit G (screensOf count a b)
 screens-fit G zero a b few first second = tt
@@ -205,7 +206,7 @@ module _ (ws : List ℕ) (ok : accepted ws ≡ true) where
         some = omega (arith, number, parts .some);
         few = omega (arith, number, parts .few);
         answers = all-counting (AnswerFits P G) (λ j. answerOf (answerWord ws k j)) 0 (answersIn (ruleWord ws k))
-          (λ j l. rw zero-add (answer-fits P G (answerWord ws k j) (passed .answers j (omega (arith, parts .few)) .used l)));
+            (λ j l. rw zero-add (answer-fits P G (answerWord ws k j) (passed .answers j (omega (arith, parts .few)) .used l)));
       }
 
   -- the book that accepted words say is well formed
@@ -220,5 +221,5 @@ module _ (ws : List ℕ) (ok : accepted ws ≡ true) where
         few-screens = parts .few-screens;
         few-rules = omega (arith, length-map-counting (decodedRule ws) 0 (rulesIn (heading ws)), parts .few-rules);
         rules = all-counting (RuleFits (modesIn (heading ws)) (screensIn (heading ws))) (decodedRule ws) 0 (rulesIn (heading ws))
-          (λ k h. rw zero-add (rule-fits k h));
+            (λ k h. rw zero-add (rule-fits k h));
       }

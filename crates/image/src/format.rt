@@ -19,5 +19,4 @@ pub fn most_rules() -> usize
 fn round_trip()
     ensures reads { λ _. ⌜ ReadsBack 1024 ⌝ }
     ensures writes { λ _. ⌜ WritesBack ⌝ }
-{
-}
+{}

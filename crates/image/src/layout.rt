@@ -42,7 +42,12 @@ pub(crate) fn heading_good(word: u32) -> bool
 {
     let modes = byte(word, 0);
     let screens = byte(word, 8);
-    kind(word) == 1 && 1 <= modes && modes <= 60 && 1 <= screens && screens <= 128 && rules_in(word) <= 1024
+    kind(word) == 1
+        && 1 <= modes
+        && modes <= 60
+        && 1 <= screens
+        && screens <= 128
+        && rules_in(word) <= 1024
 }
 
 // A rule word within the bounds of a plan with so many modes and screens.
@@ -60,11 +65,15 @@ pub(crate) fn rule_good(modes: u8, screens: u8, word: u32) -> bool
         && answers <= 8
 }
 
-// A screen field of an answer word: below the number of screens where the screen is there, else 0.
-fn screen_good(screens: u8, present: bool, screen: u8) -> bool
-    ensures { λ r. ⌜ r ≡ screenGood screens present screen ⌝ }
+// A screen field of an answer word: below the limit where the screen is there, else 0.
+fn screen_good(limit: u8, present: bool, screen: u8) -> bool
+    ensures { λ r. ⌜ r ≡ screenGood limit present screen ⌝ }
 {
-    if present { screen < screens } else { screen == 0 }
+    if present {
+        screen < limit
+    } else {
+        screen == 0
+    }
 }
 
 // An answer word within the bounds of a plan with so many modes and screens.

@@ -16,11 +16,48 @@ use std::test::*;
 
 // P = 2, G = 3, and four rules.
 const PLAN: [u32; 37] = [
-    0x1004_0302, //
-    0x2041_0000, 0x3000_0600, 0, 0, 0, 0, 0, 0, 0, //
-    0x2042_0100, 0x3000_0000, 0, 0, 0, 0, 0, 0, 0, //
-    0x2083_0100, 0x3004_0A01, 0x3000_0901, 0, 0, 0, 0, 0, 0, //
-    0x2044_0201, 0x3000_0000, 0, 0, 0, 0, 0, 0, 0, //
+    // heading
+    0x1004_0302,
+    // rule 0: key 1, mode 0, screen 0, answer (0: 1, 0)
+    0x2041_0000,
+    0x3000_0600,
+    0,
+    0,
+    0,
+    0,
+    0,
+    0,
+    0,
+    // rule 1: key 2, mode 0, screen 1, answer (0: none)
+    0x2042_0100,
+    0x3000_0000,
+    0,
+    0,
+    0,
+    0,
+    0,
+    0,
+    0,
+    // rule 2: key 3, mode 0, screen 1, answers (1: 2, 1) and (1: 2)
+    0x2083_0100,
+    0x3004_0A01,
+    0x3000_0901,
+    0,
+    0,
+    0,
+    0,
+    0,
+    0,
+    // rule 3: key 4, mode 1, screen 2, answer (0: none)
+    0x2044_0201,
+    0x3000_0000,
+    0,
+    0,
+    0,
+    0,
+    0,
+    0,
+    0,
 ];
 
 // The number of rules of a plan, or the number and the place of its refusal.
@@ -53,7 +90,16 @@ fn headings() -> Result<(), Fail> {
     for word in good {
         check_eq(loaded(&[word]), Ok(0))?;
     }
-    let bad = [0x1000_0100, 0x1000_013D, 0x1000_0001, 0x1000_8101, 0x0000_0101, 0x2000_0101, 0x1401_0101, 0x1FFF_0101];
+    let bad = [
+        0x1000_0100, // P = 0
+        0x1000_013D, // P = 61
+        0x1000_0001, // G = 0
+        0x1000_8101, // G = 129
+        0x0000_0101, // kind 0
+        0x2000_0101, // kind 2
+        0x1401_0101, // 1,025 rules
+        0x1FFF_0101, // 4,095 rules
+    ];
     for word in bad {
         check_eq(loaded(&[word]), Err((2, 0)))?;
     }
@@ -83,7 +129,17 @@ fn rule_words() -> Result<(), Fail> {
     for word in good {
         check_eq(loaded(&one_rule(word, 0x3000_0000)), Ok(1))?;
     }
-    let bad = [0x0040_0000, 0x1040_0000, 0x3040_0000, 0x2440_0000, 0x2840_0000, 0x2040_0002, 0x2040_0300, 0x2000_0000, 0x2240_0000];
+    let bad = [
+        0x0040_0000, // kind 0
+        0x1040_0000, // kind 1
+        0x3040_0000, // kind 3
+        0x2440_0000, // bit 26
+        0x2840_0000, // bit 27
+        0x2040_0002, // mode P
+        0x2040_0300, // screen G
+        0x2000_0000, // no answer
+        0x2240_0000, // nine answers
+    ];
     for word in bad {
         check_eq(loaded(&one_rule(word, 0x3000_0000)), Err((3, 1)))?;
     }
@@ -97,8 +153,18 @@ fn answer_words() -> Result<(), Fail> {
         check_eq(loaded(&one_rule(0x2040_0000, word)), Ok(1))?;
     }
     let bad = [
-        0x0000_0000, 0x2000_0000, 0x3400_0000, 0x3800_0000, 0x3000_0002, 0x3000_0300, 0x3000_0400, 0x3004_0000, 0x3000_0D00, 0x3004_0900,
-        0x3000_0E00, 0x300C_0200,
+        0x0000_0000, // kind 0
+        0x2000_0000, // kind 2
+        0x3400_0000, // bit 26
+        0x3800_0000, // bit 27
+        0x3000_0002, // mode P
+        0x3000_0300, // three screens
+        0x3000_0400, // no screen, yet a first
+        0x3004_0000, // no screen, yet a second
+        0x3000_0D00, // one screen, G
+        0x3004_0900, // one screen, yet a second
+        0x3000_0E00, // first of two is G
+        0x300C_0200, // second of two is G
     ];
     for word in bad {
         check_eq(loaded(&one_rule(0x2040_0000, word)), Err((4, 2)))?;
@@ -133,12 +199,38 @@ fn a_refused_load_changes_nothing() -> Result<(), Fail> {
 fn questions() -> Result<(), Fail> {
     let mut image = Image::new();
     check(image.load(&PLAN).is_ok())?;
-    check_eq(image.rule(2), Some(RuleHead { key: 3, mode: 0, screen: 1, answers: 2 }))?;
+    check_eq(
+        image.rule(2),
+        Some(RuleHead {
+            key: 3,
+            mode: 0,
+            screen: 1,
+            answers: 2,
+        }),
+    )?;
     check_eq(image.rule(4), None)?;
     check_eq(image.rule(usize::MAX), None)?;
-    check_eq(image.answer(2, 0), Some(Answer { mode: 1, screens: Screens::Two(2, 1) }))?;
-    check_eq(image.answer(2, 1), Some(Answer { mode: 1, screens: Screens::One(2) }))?;
-    check_eq(image.answer(3, 0), Some(Answer { mode: 0, screens: Screens::Gone }))?;
+    check_eq(
+        image.answer(2, 0),
+        Some(Answer {
+            mode: 1,
+            screens: Screens::Two(2, 1),
+        }),
+    )?;
+    check_eq(
+        image.answer(2, 1),
+        Some(Answer {
+            mode: 1,
+            screens: Screens::One(2),
+        }),
+    )?;
+    check_eq(
+        image.answer(3, 0),
+        Some(Answer {
+            mode: 0,
+            screens: Screens::Gone,
+        }),
+    )?;
     check_eq(image.answer(2, 2), None)?;
     check_eq(image.answer(4, 0), None)?;
     check_eq(image.answer(usize::MAX, usize::MAX), None)

@@ -7,9 +7,8 @@ ghost use Rattle.std.specs.declared.option.Option.the-variants.{Some};
 ghost use Rattle.std.specs.shelf.Maps.{nth};
 ghost use Rattle.listing.specs.Pieces.{answersIn, lineIn};
 ghost use Rattle.listing.specs.Text.{answerText, answersText, firstLine, ruleLines, listed};
-mod whole;
 
-pub use whole::show;
+mod whole;
 
 use rulebook::Answer;
 use rulebook::RuleBook;
@@ -17,6 +16,7 @@ use rulebook::Screens;
 use std::alloc::AllocError;
 use std::alloc::Global;
 use std::fmt;
+pub use whole::show;
 
 // The text of a book: a first line, then a line for each rule.
 pub fn list<B: RuleBook>(heap: Global, book: &B) -> Result<String, AllocError>

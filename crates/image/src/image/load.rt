@@ -67,7 +67,11 @@ fn answer_fault(words: &[u32], k: usize, j: usize) -> Option<Refusal>
     } else {
         word == 0
     };
-    if good { None } else { Some(Refusal::BadAnswer(2 + 9 * k + j)) }
+    if good {
+        None
+    } else {
+        Some(Refusal::BadAnswer(2 + 9 * k + j))
+    }
 }
 
 // What is wrong first in the eight answer words of rule k, if anything.
