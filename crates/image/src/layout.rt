@@ -69,11 +69,7 @@ pub(crate) fn rule_good(modes: u8, screens: u8, word: u32) -> bool
 fn screen_good(limit: u8, present: bool, screen: u8) -> bool
     ensures { λ r. ⌜ r ≡ screenGood limit present screen ⌝ }
 {
-    if present {
-        screen < limit
-    } else {
-        screen == 0
-    }
+    if present { screen < limit } else { screen == 0 }
 }
 
 // An answer word within the bounds of a plan with so many modes and screens.

@@ -1,5 +1,5 @@
 -- The meaning of a rule book, the bounds that it keeps, and what its questions are answered by.
-use mathlib.Core.Path.{_≡_}
+use mathlib.Core.Path.{_≡_, refl}
 use mathlib.Core.List.{List, [], _∷_}
 use Prim.Native.Nat.{ℕ, _<_, _≤_}
 use lib.ListN.{length}
@@ -75,3 +75,19 @@ ruleAt b k = headIn (nth (b .rules) k)
 -- answer j of rule k, or none beyond either list
 abbrev pub answerAt : Book → ℕ → ℕ → Option Answer
 answerAt b k j = answerIn (nth (b .rules) k) j
+
+-- a book of one rule with two answers
+abbrev example : Book
+example = record { modes = 2; screens = 3; rules = record { key = 3; mode = 0; screen = 1; answers = record { mode = 1; screens = Two 2 1 } ∷ record { mode = 1; screens = One 2 } ∷ [] } ∷ [] }
+
+example-rule : ruleAt example 0 ≡ Some (record { key = 3; mode = 0; screen = 1; answers = 2 })
+example-rule = refl
+
+example-no-rule : ruleAt example 1 ≡ None
+example-no-rule = refl
+
+example-answer : answerAt example 0 1 ≡ Some (record { mode = 1; screens = One 2 })
+example-answer = refl
+
+example-no-answer : answerAt example 0 2 ≡ None
+example-no-answer = refl

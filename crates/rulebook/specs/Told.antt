@@ -27,3 +27,7 @@ secondScreen (Two a b) = b
 -- the numbers that tell an answer
 abbrev pub toldOf : Answer → ToldAnswer
 toldOf a = record { mode = a .mode; count = countOf (a .screens); first = firstScreen (a .screens); second = secondScreen (a .screens) }
+
+-- one screen: the second is absent
+example-told : toldOf (record { mode = 1; screens = One 2 }) ≡ record { mode = 1; count = 1; first = 2; second = 0 }
+example-told = refl

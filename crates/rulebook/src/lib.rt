@@ -19,5 +19,3 @@ pub use told::Screens;
 pub use told::ScreensDebug;
 pub use told::ScreensPartialEq;
 pub use told::ToldAnswer;
-pub use told::ToldAnswerDebug;
-pub use told::ToldAnswerPartialEq;

@@ -36,7 +36,7 @@ pub struct RuleHead {
 }
 
 // An answer in plain numbers: its mode, how many screens it has, and two screens, 0 where absent.
-#[derive(Clone, Copy, PartialEq, Eq, Debug)]
+#[derive(Clone, Copy)]
 pub struct ToldAnswer {
     pub mode: Mode,
     pub count: u8,
