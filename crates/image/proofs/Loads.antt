@@ -9,7 +9,7 @@ use Rattle.std.specs.declared.result.Result.{Result}
 use Rattle.std.specs.declared.result.Result.the-variants.{Ok}
 use Rattle.std.proofs.shelf.Tests.{cond-true}
 use Rattle.rulebook.specs.Book.{Book}
-use Rattle.image.specs.Plan.{decoded, outcome, accepted}
+use Rattle.image.specs.Plan.{decoded, outcome}
 use Rattle.image.specs.Encode.{encoded, Holds}
 use Rattle.image.specs.declared.refusal.Refusal.{Refusal}
 use Rattle.image.proofs.Rewritten.{writes-back}

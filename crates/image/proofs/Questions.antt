@@ -2,8 +2,8 @@
 use mathlib.Core.Path.{_≡_, refl, sym, ap, _∙_}
 use mathlib.Core.Bool.{true}
 use mathlib.Core.List.{List, map}
-use mathlib.Core.Logic.{inl, inr, ⊎-elim}
-use Prim.Native.Nat.{ℕ, _+_, _*_, _<_, _≤_}
+use mathlib.Core.Logic.{⊎-elim}
+use Prim.Native.Nat.{ℕ, _<_, _≤_}
 use native.Mathlib.Omega.{arith}
 use native.Mathlib.Nat.{zero-add}
 use lib.ListN.{length}
@@ -16,8 +16,8 @@ use Rattle.std.specs.declared.option.Option.{Option}
 use Rattle.std.specs.declared.option.Option.the-variants.{Some, None}
 use Rattle.rulebook.specs.declared.told.Answer.{Answer}
 use Rattle.rulebook.specs.declared.told.RuleHead.{RuleHead}
-use Rattle.rulebook.specs.Book.{Rule, Book, headOf, headIn, answerIn, ruleAt, answerAt}
-use Rattle.image.specs.Layout.{field, rulesIn, modesIn, screensIn, keyIn, modeIn, screenIn, answersIn, answerOf}
+use Rattle.rulebook.specs.Book.{Rule, headIn, answerIn, ruleAt, answerAt}
+use Rattle.image.specs.Layout.{rulesIn, modesIn, screensIn, keyIn, modeIn, screenIn, answersIn, answerOf}
 use Rattle.image.specs.Plan.{heading, rulePlace, answerPlace, ruleWord, answerWord, decodedRule, decoded, accepted}
 use Rattle.image.specs.Formed.{checked, rule-parts}
 

@@ -1,24 +1,22 @@
 -- Accepted words are those that are written for the book they say.
 use mathlib.Core.Path.{_≡_, refl, sym, ap, _∙_}
-use mathlib.Core.Bool.{Bool, true, false, cond}
-use mathlib.Core.List.{List, [], _∷_, _++_, map}
+use mathlib.Core.Bool.{true}
+use mathlib.Core.List.{List}
 use mathlib.Core.Logic.{⊎-elim}
 use Prim.Native.Nat.{ℕ, zero, suc, _+_, _-_, _*_, _/_, _%_, _<_, _≤_}
 use native.Mathlib.Omega.{arith}
-use lib.Dec.{eqb, ltb}
+use lib.Dec.{ltb}
 use lib.ListN.{length, getD}
-use Rattle.std.specs.Iters.{counting}
 use Rattle.std.specs.shelf.Lists.{All, joined}
 use Rattle.std.proofs.shelf.Lists.{ext-getD}
 use Rattle.std.proofs.shelf.Elements.{all-weaker}
 use Rattle.std.proofs.shelf.Counted.{length-map-counting, getD-map-counting}
 use Rattle.std.proofs.shelf.Tests.{cases-lt, eqb-true}
-use Rattle.rulebook.specs.declared.told.Screens.{Screens}
-use Rattle.rulebook.specs.Book.{Rule, Book, RuleFits}
+use Rattle.rulebook.specs.Book.{Rule, RuleFits}
 use Rattle.rulebook.specs.Told.{countOf, firstScreen, secondScreen}
 use Rattle.image.specs.Layout.{modesIn, screensIn, rulesIn, answersIn, countIn, firstIn, secondIn, screenGood, answerGood, screensOf, answerOf}
 use Rattle.image.specs.Plan.{heading, ruleWord, answerWord, rulePlace, answerPlace, decodedRule, decoded, accepted}
-use Rattle.image.specs.Formed.{Checked, checked, RuleParts, AnswerParts, HeadingParts, heading-parts, rule-parts, answer-parts, decoded-formed}
+use Rattle.image.specs.Formed.{Checked, checked, RuleParts, heading-parts, rule-parts, answer-parts, decoded-formed}
 use Rattle.image.specs.Encode.{headingWordOf, ruleWordOf, answerWordOf, ruleWords, encoded, WritesBack}
 use Rattle.image.proofs.Questions.{rule-count}
 use Rattle.image.proofs.Written.{Nine, length-joined, getD-joined, no-rule, no-answer, length-rule-words, answer-there, answer-lacking}

@@ -1,7 +1,7 @@
 -- The fields of a written word are what was written, and a good word is written by its fields.
-use mathlib.Core.Path.{_≡_, refl, sym, ap, _∙_}
-use mathlib.Core.Bool.{Bool, true, false, cond, _&&_}
-use Prim.Native.Nat.{ℕ, zero, suc, _+_, _*_, _/_, _%_, _^_, _<_, _≤_}
+use mathlib.Core.Path.{_≡_, refl, ap, _∙_}
+use mathlib.Core.Bool.{true}
+use Prim.Native.Nat.{ℕ, _<_, _≤_}
 use native.Mathlib.Omega.{arith}
 use lib.Dec.{eqb, ltb, leb}
 use lib.ListN.{length}
@@ -9,9 +9,9 @@ use Rattle.std.proofs.shelf.Tests.{and-from, eq-eqb, lt-ltb, le-leb}
 use Rattle.rulebook.specs.declared.told.Answer.{Answer}
 use Rattle.rulebook.specs.declared.told.Screens.{Screens}
 use Rattle.rulebook.specs.declared.told.Screens.the-variants.{Gone, One, Two}
-use Rattle.rulebook.specs.Book.{Rule, Book, ScreensFit, AnswerFits, RuleFits, WellFormed}
+use Rattle.rulebook.specs.Book.{Rule, Book, ScreensFit, AnswerFits, RuleFits}
 use Rattle.rulebook.specs.Told.{countOf, firstScreen, secondScreen}
-use Rattle.image.specs.Layout.{field, kindOf, spareIn, modesIn, screensIn, rulesIn, headingGood, modeIn, screenIn, keyIn, answersIn, ruleGood, countIn, firstIn, secondIn, screenGood, answerGood, screensOf, answerOf}
+use Rattle.image.specs.Layout.{kindOf, spareIn, modesIn, screensIn, rulesIn, headingGood, modeIn, screenIn, keyIn, answersIn, ruleGood, countIn, firstIn, secondIn, screenGood, answerGood, screensOf, answerOf}
 use Rattle.image.specs.Formed.{HeadingParts, RuleParts, AnswerParts}
 use Rattle.image.specs.Encode.{headingWordOf, ruleWordOf, answerWordOf, Holds}
 

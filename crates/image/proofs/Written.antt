@@ -1,6 +1,6 @@
 -- A written book is accepted and read back.
-use mathlib.Core.Path.{_≡_, refl, sym, ap, subst, _∙_}
-use mathlib.Core.Bool.{Bool, true, false, cond}
+use mathlib.Core.Path.{_≡_, refl, sym, ap, _∙_}
+use mathlib.Core.Bool.{Bool, true, cond}
 use mathlib.Core.List.{List, [], _∷_, _++_, map}
 use mathlib.Core.Logic.{⊎-elim}
 use Prim.Native.Nat.{ℕ, zero, suc, _+_, _-_, _*_, _<_, _≤_}
@@ -10,7 +10,7 @@ use lib.Dec.{eqb, ltb}
 use lib.ListN.{length, getD, replicate}
 use Rattle.std.specs.Iters.{counting}
 use Rattle.std.specs.shelf.Lists.{All, joined}
-use Rattle.std.proofs.shelf.Lists.{length-append, length-map, length-replicate, getD-append-left, getD-append-right, getD-append-add, getD-replicate, getD-map, getD-past}
+use Rattle.std.proofs.shelf.Lists.{length-append, length-map, length-replicate, getD-append-left, getD-append-right, getD-append-add, getD-replicate, getD-map}
 use Rattle.std.proofs.shelf.Elements.{all-getD, all-weaker}
 use Rattle.std.proofs.shelf.Counted.{fill-by-all}
 use Rattle.std.proofs.shelf.Tests.{cases-lt, cond-true, cond-false, lt-ltb, le-ltb, eq-eqb, ne-eqb}
@@ -21,10 +21,10 @@ use Rattle.rulebook.specs.declared.told.Answer.{Answer}
 use Rattle.rulebook.specs.declared.told.Screens.the-variants.{Gone}
 use Rattle.rulebook.specs.Book.{Rule, Book, AnswerFits, RuleFits, WellFormed}
 use Rattle.image.specs.Layout.{modesIn, screensIn, rulesIn, keyIn, modeIn, screenIn, answersIn, headingGood, ruleGood, answerGood, answerOf}
-use Rattle.image.specs.Plan.{heading, ruleWord, answerWord, rulePlace, answerPlace, decodedRule, decoded, orElse, firstSome, answerFault, answersFault, ruleFault, planFault, outcome, unless, refusalOf}
+use Rattle.image.specs.Plan.{ruleWord, answerWord, rulePlace, answerPlace, decodedRule, decoded, orElse, firstSome, answerFault, answersFault, ruleFault, planFault, outcome, unless, refusalOf}
 use Rattle.image.specs.Encode.{headingWordOf, ruleWordOf, answerWordOf, ruleWords, encoded, Holds, ReadsBack}
 use Rattle.image.specs.declared.refusal.Refusal.{Refusal}
-use Rattle.image.specs.declared.refusal.Refusal.the-variants.{NoWords, BadHeading, WrongLength, BadRule, BadAnswer}
+use Rattle.image.specs.declared.refusal.Refusal.the-variants.{BadHeading, BadRule, BadAnswer}
 use Rattle.image.proofs.Words.{HeadingFields, RuleFields, heading-fields, heading-written, rule-fields, rule-written, answer-written, answer-read-back}
 
 -- lists of nine, one after another

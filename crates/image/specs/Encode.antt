@@ -1,13 +1,13 @@
 -- The words that a writer of the format writes for a book.
 use mathlib.Core.Path.{_≡_, refl}
-use mathlib.Core.Bool.{Bool, true}
+use mathlib.Core.Bool.{true}
 use mathlib.Core.List.{List, [], _∷_, _++_, map}
 use Prim.Native.Nat.{ℕ, _+_, _-_, _*_, _^_, _≤_}
 use lib.ListN.{length, replicate}
 use Rattle.std.specs.shelf.Lists.{joined}
 use Rattle.std.specs.declared.result.Result.the-variants.{Ok}
 use Rattle.rulebook.specs.declared.told.Answer.{Answer}
-use Rattle.rulebook.specs.declared.told.Screens.the-variants.{Gone, One, Two}
+use Rattle.rulebook.specs.declared.told.Screens.the-variants.{Two}
 use Rattle.rulebook.specs.Book.{Rule, Book, WellFormed}
 use Rattle.rulebook.specs.Told.{countOf, firstScreen, secondScreen}
 use Rattle.image.specs.Plan.{decoded, outcome, accepted}

@@ -1,25 +1,24 @@
 -- What the check of a plan shows of its words, and that the book they say keeps to the bounds of a book.
 use mathlib.Core.Path.{_≡_, refl, sym, ap, subst, _∙_}
-use mathlib.Core.Bool.{Bool, true, false, cond, _&&_}
-use mathlib.Core.List.{List, [], _∷_, map}
+use mathlib.Core.Bool.{Bool, true, false, cond}
+use mathlib.Core.List.{List, map}
 use Prim.Native.Nat.{ℕ, zero, suc, _+_, _*_, _<_, _≤_}
 use native.Mathlib.Omega.{arith}
 use native.Mathlib.Nat.{add-zero, zero-add}
 use lib.Dec.{eqb, ltb, leb}
-use lib.ListN.{length, getD}
+use lib.ListN.{length}
 use Rattle.std.specs.Iters.{counting}
 use Rattle.std.specs.Results.{isOk}
 use Rattle.std.specs.shelf.Lists.{All}
-use Rattle.std.proofs.shelf.Tests.{and-parts, ltb-true, ltb-false, leb-true, eqb-true, lt-ltb, le-ltb, cond-true, cond-false}
+use Rattle.std.proofs.shelf.Tests.{and-parts, ltb-true, leb-true, eqb-true, lt-ltb, le-ltb, cond-true, cond-false}
 use Rattle.std.proofs.shelf.Counted.{length-map-counting}
 use Rattle.std.specs.declared.option.Option.{Option}
 use Rattle.std.specs.declared.option.Option.the-variants.{Some, None}
-use Rattle.std.specs.declared.result.Result.{Result}
 use Rattle.image.specs.declared.refusal.Refusal.{Refusal}
 use Rattle.image.specs.declared.refusal.Refusal.the-variants.{NoWords, BadHeading, WrongLength, BadRule, BadAnswer}
-use Rattle.rulebook.specs.Book.{Rule, Book, ScreensFit, AnswerFits, RuleFits, WellFormed}
-use Rattle.image.specs.Layout.{modesIn, screensIn, rulesIn, headingGood, modeIn, screenIn, keyIn, answersIn, ruleGood, kindOf, spareIn, answerGood, answerOf, screensOf, screenGood, countIn, firstIn, secondIn}
-use Rattle.image.specs.Plan.{heading, ruleWord, answerWord, answerPlace, rulePlace, decodedRule, decoded, orElse, firstSome, answerFault, answersFault, ruleFault, planFault, refusalOf, unless, outcome, accepted}
+use Rattle.rulebook.specs.Book.{ScreensFit, AnswerFits, RuleFits, WellFormed}
+use Rattle.image.specs.Layout.{modesIn, screensIn, rulesIn, headingGood, modeIn, screenIn, answersIn, ruleGood, kindOf, spareIn, answerGood, answerOf, screensOf, screenGood, countIn, firstIn, secondIn}
+use Rattle.image.specs.Plan.{heading, ruleWord, answerWord, answerPlace, rulePlace, decodedRule, decoded, orElse, firstSome, answerFault, answersFault, ruleFault, planFault, refusalOf, unless, accepted}
 
 -- the used answer words of rule k are good, and the unused ones 0
 pub record AnswerChecked (ws : List ℕ) (k j : ℕ) : Type 0 where

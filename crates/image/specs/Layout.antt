@@ -2,7 +2,7 @@
 -- A word is good where it keeps to its layout and to the bounds of a book with P modes and G screens.
 use mathlib.Core.Path.{_≡_, refl}
 use mathlib.Core.Bool.{Bool, true, false, cond, _&&_}
-use Prim.Native.Nat.{ℕ, _+_, _*_, _/_, _%_, _^_}
+use Prim.Native.Nat.{ℕ, _/_, _%_, _^_}
 use lib.Dec.{eqb, ltb, leb}
 use Rattle.rulebook.specs.declared.told.Answer.{Answer}
 use Rattle.rulebook.specs.declared.told.Screens.{Screens}
@@ -79,3 +79,18 @@ screensOf count a b = cond (eqb count 0) Gone (cond (eqb count 1) (One a) (Two a
 -- the answer that an answer word tells
 abbrev pub answerOf : ℕ → Answer
 answerOf w = record { mode = modeIn w; screens = screensOf (countIn w) (firstIn w) (secondIn w) }
+
+-- key 1 at mode 0 and screen 0 with one answer; the same with bit 26 set
+example-rule : ruleGood 2 3 0x20410000 ≡ true
+example-rule = refl
+
+example-spare-bit : ruleGood 2 3 0x24410000 ≡ false
+example-spare-bit = refl
+
+-- mode 0 with screen 1 on top of screen 0
+example-answer : answerOf 0x30000600 ≡ record { mode = 0; screens = Two 1 0 }
+example-answer = refl
+
+-- no screen is told, and yet a first screen stands there
+example-absent : answerGood 2 3 0x30000400 ≡ false
+example-absent = refl

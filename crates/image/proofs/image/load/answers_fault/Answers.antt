@@ -1,4 +1,3 @@
-use native.Mathlib.Omega.{arith}
 use Rattle.image.specs.Plan.{answerFault}
 use Rattle.image.proofs.Faults.{first-some-more, first-some-found, first-some-all}
 use Rattle.image.proofs.image.load.answers_fault.Needs as need

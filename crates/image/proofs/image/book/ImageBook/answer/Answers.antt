@@ -1,4 +1,4 @@
-use mathlib.Core.Path.{sym, _∙_}
+use mathlib.Core.Path.{_∙_}
 use Rattle.image.proofs.Questions.{answer-no-rule, answer-past, answer-read, answer-inside}
 use Rattle.image.proofs.image.book.ImageBook.answer.Needs as need
 
