@@ -9,17 +9,16 @@ use lib.Dec.{ltb}
 use lib.ListN.{length, getD}
 use Rattle.std.specs.shelf.Lists.{All, joined}
 use Rattle.std.proofs.shelf.Lists.{ext-getD}
-use Rattle.std.proofs.shelf.Elements.{all-weaker}
 use Rattle.std.proofs.shelf.Counted.{length-map-counting, getD-map-counting}
 use Rattle.std.proofs.shelf.Tests.{cases-lt, eqb-true}
-use Rattle.rulebook.specs.Book.{Rule, RuleFits}
+use Rattle.rulebook.specs.Book.{Rule}
 use Rattle.rulebook.specs.Told.{countOf, firstScreen, secondScreen}
 use Rattle.image.specs.Layout.{modesIn, screensIn, rulesIn, answersIn, countIn, firstIn, secondIn, screenGood, answerGood, screensOf, answerOf}
 use Rattle.image.specs.Plan.{heading, ruleWord, answerWord, rulePlace, answerPlace, decodedRule, decoded, accepted}
 use Rattle.image.specs.Formed.{Checked, checked, RuleParts, heading-parts, rule-parts, answer-parts, decoded-formed}
 use Rattle.image.specs.Encode.{headingWordOf, ruleWordOf, answerWordOf, ruleWords, encoded, WritesBack}
 use Rattle.image.proofs.Questions.{rule-count}
-use Rattle.image.proofs.Written.{Nine, length-joined, getD-joined, no-rule, no-answer, length-rule-words, answer-there, answer-lacking}
+use Rattle.image.proofs.Written.{Nine, length-joined, getD-joined, no-rule, no-answer, rules-nine, answer-there, answer-lacking}
 
 -- the numbers that tell the screens of a good answer word are its fields
 screens-fields : (G c a b : ℕ) → c ≤ 2 → screenGood G (ltb 0 c) a ≡ true → screenGood G (ltb 1 c) b ≡ true → (countOf (screensOf c a b) ≡ c) × (firstScreen (screensOf c a b) ≡ a) × (secondScreen (screensOf c a b) ≡ b)
@@ -76,9 +75,7 @@ module _ (ws : List ℕ) (ok : accepted ws ≡ true) where
         let place : answerPlace k j ≡ suc (9 * k + suc j) = omega arith in answers-rewritten j (omega arith) ∙ ap (λ (n : ℕ). getD ws n 0) place
 
   nines : All (Nine ruleWords) (decoded ws .rules)
-  nines =
-      all-weaker (RuleFits (modesIn (heading ws)) (screensIn (heading ws))) (Nine ruleWords) (λ r fits. length-rule-words r (fits .few)) (decoded ws .rules)
-      (decoded-formed ws ok .rules)
+  nines = rules-nine (decoded ws) (decoded-formed ws ok)
 
   length-rewritten : length (encoded (decoded ws)) ≡ length ws
   length-rewritten = omega (arith, length-joined ruleWords (decoded ws .rules) nines, rule-count ws, passed .len)

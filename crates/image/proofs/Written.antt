@@ -70,7 +70,7 @@ no-rule = record { key = 0; mode = 0; screen = 0; answers = [] }
 pub no-answer : Answer
 no-answer = record { mode = 0; screens = Gone }
 
-pub length-rule-words : (r : Rule) → length (r .answers) ≤ 8 → length (ruleWords r) ≡ 9
+length-rule-words : (r : Rule) → length (r .answers) ≤ 8 → length (ruleWords r) ≡ 9
 length-rule-words r h =
     let zeros = length-replicate {A = ℕ} (8 - length (r .answers)) 0 in
     let answers = length-map (r .answers) answerWordOf in
@@ -88,12 +88,17 @@ answer-lacking r j h l =
     getD-append-right (map answerWordOf (r .answers)) (replicate (8 - length (r .answers)) 0) (length (r .answers)) j 0 (length-map (r .answers) answerWordOf) h
     ∙ getD-replicate (8 - length (r .answers)) (j - length (r .answers)) 0 0 (omega arith)
 
+-- each rule of a well-formed book takes nine words
+pub rules-nine : (b : Book) → WellFormed b → All (Nine ruleWords) (b .rules)
+rules-nine b formed =
+    all-weaker (RuleFits (b .modes) (b .screens)) (Nine ruleWords) (λ r fits. length-rule-words r (fits .few)) (b .rules) (formed .rules)
+
 module _ (b : Book) (h : Holds 1024 b) where
   formed : WellFormed b
   formed = h .formed
 
   nines : All (Nine ruleWords) (b .rules)
-  nines = all-weaker (RuleFits (b .modes) (b .screens)) (Nine ruleWords) (λ r fits. length-rule-words r (fits .few)) (b .rules) (formed .rules)
+  nines = rules-nine b formed
 
   rule : ℕ → Rule
   rule k = getD (b .rules) k no-rule

@@ -1,4 +1,5 @@
--- What the check of a plan shows of its words, and that the book they say keeps to the bounds of a book.
+-- What the check of a plan shows of its words, and the proof that the book they say is well formed.
+-- A rule book gives that proof with its meaning, so it stands here and not among the proofs.
 use mathlib.Core.Path.{_≡_, refl, sym, ap, subst, _∙_}
 use mathlib.Core.Bool.{Bool, true, false, cond}
 use mathlib.Core.List.{List, map}
@@ -20,11 +21,12 @@ use Rattle.rulebook.specs.Book.{ScreensFit, AnswerFits, RuleFits, WellFormed}
 use Rattle.image.specs.Layout.{modesIn, screensIn, rulesIn, headingGood, modeIn, screenIn, answersIn, ruleGood, kindOf, spareIn, answerGood, answerOf, screensOf, screenGood, countIn, firstIn, secondIn}
 use Rattle.image.specs.Plan.{heading, ruleWord, answerWord, answerPlace, rulePlace, decodedRule, decoded, orElse, firstSome, answerFault, answersFault, ruleFault, planFault, refusalOf, unless, accepted}
 
--- the used answer words of rule k are good, and the unused ones 0
+-- the word of answer j of rule k is good where the rule uses it, and 0 where it does not
 pub record AnswerChecked (ws : List ℕ) (k j : ℕ) : Type 0 where
   pub used : j < answersIn (ruleWord ws k) → answerGood (modesIn (heading ws)) (screensIn (heading ws)) (answerWord ws k j) ≡ true
   pub unused : answersIn (ruleWord ws k) ≤ j → answerWord ws k j ≡ 0
 
+-- the rule word of rule k is good, and so is each of its answer words
 pub record RuleChecked (ws : List ℕ) (k : ℕ) : Type 0 where
   pub word : ruleGood (modesIn (heading ws)) (screensIn (heading ws)) (ruleWord ws k) ≡ true
   pub answers : (j : ℕ) → j < 8 → AnswerChecked ws k j
