@@ -4,6 +4,7 @@ mod search;
 mod told;
 
 pub use book::RuleBook;
+pub use search::KeySame;
 pub use search::Same;
 pub use search::first_place;
 pub use told::Answer;

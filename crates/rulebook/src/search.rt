@@ -1,7 +1,9 @@
 // The search for the first record that agrees with a given one, over any kind of record with a stated sameness.
 ghost use mathlib.Core.Bool.{Bool};
 ghost use mathlib.Core.Path.{_≡_};
+ghost use lib.Dec.{eqb};
 ghost use Rattle.rulebook.specs.Search.{firstOf, First};
+use crate::told::Key;
 
 // A kind of record of which any two agree or do not.
 pub trait Same {
@@ -11,6 +13,15 @@ pub trait Same {
     // Decides it.
     fn agrees(&self, other: &Self) -> bool
         ensures { λ r. ⌜ r ≡ same (now (self .entry)) (now (other .entry)) ⌝ };
+}
+
+// Keys agree where they are the same number.
+pub impl Same for Key as KeySame {
+    ghost same = { eqb };
+
+    fn agrees(&self, other: &Key) -> bool {
+        *self == *other
+    }
 }
 
 // The lowest place of `records`, counted from 0, whose record agrees with `wanted`, or none where none agrees.

@@ -1,0 +1,5 @@
+pub mod Formed
+pub mod Lock
+pub mod Locked
+pub mod Locking
+pub mod Places

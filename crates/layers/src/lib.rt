@@ -1,0 +1,14 @@
+// Two layers over any rule book, each a rule book itself: a lock, which leaves out the rules of locked keys, and an allowance, which counts one key down.
+mod keys;
+mod lock;
+mod lockable;
+mod places;
+mod refusal;
+
+pub use lock::Lock;
+pub use lock::book::LockBook;
+pub use lock::calls::LockLockable;
+pub use lockable::Lockable;
+pub use refusal::LockRefusal;
+pub use refusal::LockRefusalDebug;
+pub use refusal::LockRefusalPartialEq;
