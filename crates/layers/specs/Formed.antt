@@ -20,7 +20,7 @@ use Rattle.layers.specs.Places.{risesFrom, picks}
 abbrev pub picked : List ℕ → Book → Book
 picked ps b = record { modes = b .modes; screens = b .screens; rules = picks ps (b .rules) }
 
-both : (a b : Bool) → cond a b false ≡ true → (a ≡ true) × (b ≡ true)
+pub both : (a b : Bool) → cond a b false ≡ true → (a ≡ true) × (b ≡ true)
 both true b e = (refl, e)
 both false b e = absurd (false≢true e)
 

@@ -1,5 +1,9 @@
+pub mod Allowance
+pub mod Allowed
 pub mod Formed
+pub mod Levels
 pub mod Lock
 pub mod Locked
 pub mod Locking
+pub mod Moved
 pub mod Places

@@ -1,0 +1,14 @@
+// An allowance: the book below, with one key counted down.
+use crate::places::Places;
+use crate::setting::Setting;
+
+pub mod book;
+mod levels;
+
+// `first` are the places of the rules below that are listed where none is left.
+#[derive(Drop)]
+pub struct Allowance<B> {
+    below: B,
+    setting: Option<Setting>,
+    first: Places,
+}
