@@ -15,6 +15,10 @@ use Rattle.layers.specs.Moved.{ruleWith}
 use Rattle.layers.specs.declared.setting.Origin.{Origin}
 use Rattle.layers.specs.declared.setting.Setting.{Setting}
 
+-- the setting that counts this key so many times
+abbrev pub settingOf : ℕ → ℕ → Setting
+settingOf key most = record { key = key; most = most }
+
 -- a book under a setting, by the places of the rules that are listed where none is left
 abbrev pub underAt : List ℕ → Option Setting → Book → Book
 underAt places None b = b

@@ -3,6 +3,7 @@ use crate::places::Places;
 use crate::setting::Setting;
 
 pub mod book;
+pub mod calls;
 mod levels;
 
 // `first` are the places of the rules below that are listed where none is left.

@@ -9,6 +9,7 @@ mod setting;
 
 pub use allowance::Allowance;
 pub use allowance::book::AllowanceBook;
+pub use allowance::calls::AllowanceLockable;
 pub use lock::Lock;
 pub use lock::book::LockBook;
 pub use lock::calls::LockLockable;
