@@ -10,7 +10,7 @@ use Rattle.layers.specs.Locked.{free, locked}
 use Rattle.layers.specs.Places.{placesOf, picks}
 use Rattle.layers.proofs.Standing.{picks-places}
 
-abbrev bookOf : ℕ → ℕ → List Rule → Book
+abbrev pub bookOf : ℕ → ℕ → List Rule → Book
 bookOf modes screens rules = record { modes = modes; screens = screens; rules = rules }
 
 pub picked-locked : (places keys : List ℕ) (b : Book) → places ≡ placesOf (free keys) (b .rules) → picked places b ≡ locked keys b

@@ -85,7 +85,7 @@ length-leveled counted A P first rules =
     length-append (map (ruleWith counted P 0) first) (joined level (counting 1 A)) ∙ omega (arith, length-map first (ruleWith counted P 0), rest)
 
 module _ (places : List ℕ) (key A : ℕ) (b : Book) (rises : risesFrom 0 places ≡ true) (fit : fits A b ≡ true) (formed : WellFormed b) where
-  allowed-at-formed : WellFormed (allowedAt places key A b)
+  pub allowed-at-formed : WellFormed (allowedAt places key A b)
   allowed-at-formed =
       let P : ℕ = b .modes in
       let G : ℕ = b .screens in

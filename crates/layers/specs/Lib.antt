@@ -1,9 +1,12 @@
 pub mod Allowance
 pub mod Allowed
 pub mod Formed
+pub mod Laws
 pub mod Levels
 pub mod Lock
 pub mod Locked
 pub mod Locking
 pub mod Moved
+pub mod Narrower
 pub mod Places
+pub mod Refusals

@@ -8,14 +8,13 @@ ghost use Rattle.std.specs.Of.Vec.{vec-items, vec-len, vec-cap};
 ghost use Rattle.std.specs.Results.{isOk};
 ghost use Rattle.std.specs.Vec.{made};
 ghost use Rattle.layers.specs.Locked.{lockAnswer, keysAfter};
+use crate::laws::MOST_KEYS;
 use crate::refusal::LockRefusal;
 use rulebook::Key;
 use rulebook::KeySame;
 use rulebook::first_place;
 use std::alloc::AllocError;
 use std::alloc::Global;
-
-const MOST_KEYS: usize = 16;
 
 #[derive(Drop)]
 pub(crate) struct Keys {

@@ -1,6 +1,7 @@
 // Two layers over any rule book, each a rule book itself: a lock, which leaves out the rules of locked keys, and an allowance, which counts one key down.
 mod allowance;
 mod keys;
+mod laws;
 mod lock;
 mod lockable;
 mod places;
@@ -10,6 +11,8 @@ mod setting;
 pub use allowance::Allowance;
 pub use allowance::book::AllowanceBook;
 pub use allowance::calls::AllowanceLockable;
+pub use laws::most_keys;
+pub use laws::most_modes;
 pub use lock::Lock;
 pub use lock::book::LockBook;
 pub use lock::calls::LockLockable;
