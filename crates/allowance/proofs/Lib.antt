@@ -1,0 +1,2 @@
+pub mod AllowanceLaws
+pub mod Origins

@@ -1,0 +1,6 @@
+pub mod Allowance
+pub mod Allowed
+pub mod Laws
+pub mod Levels
+pub mod Moved
+pub mod Refusals

@@ -1,0 +1,92 @@
+// Making an allowance, setting it, and locking a key in a lock below it.
+ghost use mathlib.Core.Bool.{true, false, cond};
+ghost use mathlib.Core.Path.{_≡_};
+ghost use Rattle.std.specs.Results.{isOk};
+ghost use Rattle.std.specs.Vec.{made, refused};
+ghost use Rattle.std.specs.declared.option.Option.the-variants.{Some, None};
+ghost use Rattle.allowance.specs.Allowance.{allowanceBook, settingOf};
+ghost use Rattle.allowance.specs.Allowed.{allowed, allowance, setAnswer};
+ghost use Rattle.lock.specs.Locking.{Locks};
+use crate::allowance::Allowance;
+use crate::allowance::book::AllowanceBook;
+use crate::allowance::book::setting_fits;
+use lock::Lockable;
+use lock::Places;
+use lock::LockRefusal;
+use crate::refusal::SettingRefusal;
+use crate::setting::Setting;
+use rulebook::Key;
+use rulebook::RuleBook;
+use std::alloc::Global;
+use std::alloc::Refused;
+
+impl<B: RuleBook> Allowance<B> {
+    // An allowance over this book, not set: it lists what the book lists. Where memory is wanting the book comes back.
+    pub fn new(heap: Global, below: B) -> Result<Allowance<B>, Refused<B>>
+        ensures made { λ r. ⌜ made r (λ s. (s .below ≡ below) × (s .setting ≡ None) × (allowanceBook meaning s ≡ meaning below)) ⌝ }
+        ensures refused { λ r. ⌜ refused r (λ y. y .value ≡ below) ⌝ }
+    {
+        let Ok(first) = Places::new(heap, &below, &[]) else {
+            return Err(Refused { value: below });
+        };
+        Ok(Allowance {
+            below,
+            setting: None,
+            first,
+        })
+    }
+
+    // Lets the key be pressed `most` times, in place of an earlier setting, and answers how many modes there are then. A refusal changes nothing.
+    pub fn set(&mut self, key: Key, most: u8) -> Result<u8, SettingRefusal>
+        ensures value { λ r. ⌜ r ≡ setAnswer (meaning (now (self .entry) .below)) key most ⌝ }
+        ensures below { λ _. ⌜ now (self .exit) .below ≡ now (self .entry) .below ⌝ }
+        ensures setting { λ r. ⌜ now (self .exit) .setting ≡ cond (isOk r) (Some (settingOf key most)) (now (self .entry) .setting) ⌝ }
+        ensures meaning { λ r. ⌜ (isOk r ≡ true → allowanceBook meaning (now (self .exit)) ≡ allowed key most (meaning (now (self .entry) .below))) ⌝ }
+        ensures same { λ r. ⌜ (isOk r ≡ false → now (self .exit) ≡ now (self .entry)) ⌝ }
+    {
+        let modes = admit(&self.below, key, most)?;
+        self.setting = Some(Setting { key, most });
+        self.first.refill(&self.below, &[key]);
+        Ok(modes)
+    }
+}
+
+// What setting a key and a number of times answers over this book.
+fn admit<B: RuleBook>(book: &B, key: Key, most: u8) -> Result<u8, SettingRefusal>
+    ensures { λ r. ⌜ r ≡ setAnswer (meaning (now (book .entry))) key most ⌝ }
+{
+    if key > 63 {
+        return Err(SettingRefusal::NoSuchKey);
+    }
+    if !setting_fits(book, most) {
+        return Err(SettingRefusal::DoesNotFit);
+    }
+    Ok(book.modes() * (most + 1))
+}
+
+impl<B: Lockable> Allowance<B> {
+    // Locks a key in the lock below, and answers how many are locked there then. The setting stays, and the rules follow the book below. A refusal changes nothing.
+    pub fn lock_below(&mut self, key: Key) -> Result<usize, LockRefusal>
+        ensures below { λ r. ⌜ Locks keys under (B·RuleBook .meaning) (now (self .entry) .below) key r (now (self .exit) .below) ⌝ }
+        ensures setting { λ _. ⌜ now (self .exit) .setting ≡ now (self .entry) .setting ⌝ }
+        ensures meaning { λ r. ⌜ (isOk r ≡ true → allowanceBook (B·RuleBook .meaning) (now (self .exit)) ≡ allowance (now (self .entry) .setting) (B·RuleBook .meaning (now (self .exit) .below))) ⌝ }
+        ensures same { λ r. ⌜ (isOk r ≡ false → now (self .exit) ≡ now (self .entry)) ⌝ }
+    {
+        let locked = self.below.lock(key)?;
+        match self.setting {
+            Some(setting) => self.first.refill(&self.below, &[setting.key]),
+            None => self.first.refill(&self.below, &[]),
+        }
+        Ok(locked)
+    }
+}
+
+pub impl<B: Lockable> Lockable for Allowance<B> as AllowanceLockable {
+    ghost keys = { λ s. B·Lockable .keys (s .below) };
+
+    ghost under = { λ s keys. allowance (s .setting) (B·Lockable .under (s .below) keys) };
+
+    fn lock(&mut self, key: Key) -> Result<usize, LockRefusal> {
+        self.lock_below(key)
+    }
+}

@@ -1,0 +1,4 @@
+pub mod LeftOut
+pub mod Listing
+pub mod LockLaws
+pub mod Standing

@@ -1,0 +1,65 @@
+// Making a lock, locking a key in it, and locking one in a lock below it.
+ghost use mathlib.Core.Bool.{true, false};
+ghost use mathlib.Core.List.{[]};
+ghost use mathlib.Core.Path.{_≡_};
+ghost use Rattle.std.specs.Results.{isOk};
+ghost use Rattle.std.specs.Vec.{made, refused};
+ghost use Rattle.lock.specs.Lock.{keysOf, lockBook, lockUnder};
+ghost use Rattle.lock.specs.Locked.{locked};
+ghost use Rattle.lock.specs.Locking.{Locks};
+use crate::keys::Keys;
+use crate::lock::Lock;
+use crate::lock::book::LockBook;
+use crate::lockable::Lockable;
+use crate::places::Places;
+use crate::refusal::LockRefusal;
+use rulebook::Key;
+use rulebook::RuleBook;
+use std::alloc::Global;
+use std::alloc::Refused;
+
+impl<B: RuleBook> Lock<B> {
+    // A lock over this book, with no key locked: it lists what the book lists. Where memory is wanting the book comes back.
+    pub fn new(heap: Global, below: B) -> Result<Lock<B>, Refused<B>>
+        ensures made { λ r. ⌜ made r (λ s. (s .below ≡ below) × (keysOf s ≡ []) × (lockBook meaning s ≡ locked [] (meaning below)) × (lockBook meaning s ≡ meaning below)) ⌝ }
+        ensures refused { λ r. ⌜ refused r (λ y. y .value ≡ below) ⌝ }
+    {
+        let Ok(keys) = Keys::new(heap) else {
+            return Err(Refused { value: below });
+        };
+        let Ok(places) = Places::new(heap, &below, &[]) else {
+            return Err(Refused { value: below });
+        };
+        Ok(Lock {
+            below,
+            keys,
+            places,
+        })
+    }
+}
+
+pub impl<B: RuleBook> Lockable for Lock<B> as LockLockable {
+    ghost keys = { keysOf };
+
+    ghost under = { lockUnder (B·RuleBook .meaning) };
+
+    fn lock(&mut self, key: Key) -> Result<usize, LockRefusal> {
+        let count = self.keys.lock(key)?;
+        self.places.refill(&self.below, self.keys.as_slice());
+        Ok(count)
+    }
+}
+
+impl<B: Lockable> Lock<B> {
+    // Locks a key in the lock below this one, and answers how many are locked there then. A refusal changes nothing.
+    pub fn lock_below(&mut self, key: Key) -> Result<usize, LockRefusal>
+        ensures below { λ r. ⌜ Locks keys under (B·RuleBook .meaning) (now (self .entry) .below) key r (now (self .exit) .below) ⌝ }
+        ensures keys { λ _. ⌜ keysOf (now (self .exit)) ≡ keysOf (now (self .entry)) ⌝ }
+        ensures meaning { λ r. ⌜ (isOk r ≡ true → lockBook (B·RuleBook .meaning) (now (self .exit)) ≡ locked (keysOf (now (self .entry))) (B·RuleBook .meaning (now (self .exit) .below))) ⌝ }
+        ensures same { λ r. ⌜ (isOk r ≡ false → now (self .exit) ≡ now (self .entry)) ⌝ }
+    {
+        let locked = self.below.lock(key)?;
+        self.places.refill(&self.below, self.keys.as_slice());
+        Ok(locked)
+    }
+}

@@ -1,0 +1,92 @@
+// Places in the book below, in rising order, with room for those of any book.
+ghost use mathlib.Core.Bool.{true};
+ghost use mathlib.Core.List.{List};
+ghost use mathlib.Core.Path.{_≡_};
+ghost use Prim.Native.Nat.{_≤_};
+ghost use lib.ListN.{length};
+ghost use Rattle.std.specs.Of.Vec.{vec-items, vec-cap};
+ghost use Rattle.std.specs.Vec.{made};
+ghost use Rattle.std.specs.shelf.Maps.{nth};
+ghost use Rattle.rulebook.specs.Book.{Rule, ruleAt};
+ghost use Rattle.lock.specs.Formed.{picked};
+ghost use Rattle.lock.specs.Locked.{locked};
+ghost use Rattle.lock.specs.Places.{risesFrom, picks, standsAt, freeIn};
+use rulebook::Key;
+use rulebook::KeySame;
+use rulebook::RuleBook;
+use rulebook::first_place;
+use std::alloc::AllocError;
+use std::alloc::Global;
+
+#[derive(Drop)]
+pub struct Places {
+    list: Vec<usize>,
+    ghost rises: { risesFrom 0 (vec-items list) ≡ true },
+    ghost room: { 65535 ≤ vec-cap list },
+}
+
+impl Places {
+    // The places of the rules of `book` whose key is not among `keys`.
+    pub fn new<B: RuleBook>(heap: Global, book: &B, keys: &[Key]) -> Result<Places, AllocError>
+        ensures { λ r. ⌜ made r (λ s. picked (vec-items (s .list)) (meaning (now (book .entry))) ≡ locked (now (keys .entry)) (meaning (now (book .entry)))) ⌝ }
+    {
+        let mut list = Vec::with_capacity(heap, 65_535)?;
+        fill(&mut list, book, keys);
+        Ok(Places { list })
+    }
+
+    // Takes the places of the rules of `book` whose key is not among `keys` instead.
+    pub fn refill<B: RuleBook>(&mut self, book: &B, keys: &[Key])
+        ensures { λ _. ⌜ picked (vec-items (now (self .exit) .list)) (meaning (now (book .entry))) ≡ locked (now (keys .entry)) (meaning (now (book .entry))) ⌝ }
+    {
+        fill(&mut self.list, book, keys);
+    }
+
+    // The place at which the `k`-th of the rules stands that these places pick out of any list, or none where they pick no such rule.
+    pub fn find(&self, k: usize) -> Option<usize>
+        ensures { λ r. ⌜ ((rules : List Rule) → nth (picks (vec-items (now (self .entry) .list)) rules) k ≡ standsAt r rules) ⌝ }
+    {
+        if k < self.list.len() {
+            Some(self.list[k])
+        } else {
+            None
+        }
+    }
+
+    // How many of the places have a rule of `book`.
+    pub fn count<B: RuleBook>(&self, book: &B) -> usize
+        ensures { λ r. ⌜ r ≡ length (picks (vec-items (now (self .entry) .list)) (meaning (now (book .entry)) .rules)) ⌝ }
+    {
+        let rules = book.rules();
+        let mut count = self.list.len();
+        while count > 0 && self.list[count - 1] >= rules {
+            count -= 1;
+        }
+        count
+    }
+}
+
+// Fills `list` with the places of the rules of `book` whose key is not among `keys`, in their order.
+fn fill<B: RuleBook>(list: &mut Vec<usize>, book: &B, keys: &[Key])
+    requires { ⌜ 65535 ≤ vec-cap (now list) ⌝ }
+    ensures lists { λ _. ⌜ picked (vec-items (now (list .exit))) (meaning (now (book .entry))) ≡ locked (now (keys .entry)) (meaning (now (book .entry))) ⌝ }
+    ensures rises { λ _. ⌜ risesFrom 0 (vec-items (now (list .exit))) ≡ true ⌝ }
+    ensures capacity { λ _. ⌜ vec-cap (now (list .exit)) ≡ vec-cap (now (list .entry)) ⌝ }
+{
+    list.clear();
+    for place in 0..book.rules() {
+        if is_free(book, keys, place) {
+            list.push_reserved(place);
+        }
+    }
+}
+
+// Whether there is a rule at this place and its key is not among `keys`.
+fn is_free<B: RuleBook>(book: &B, keys: &[Key], place: usize) -> bool
+    ensures { λ r. ⌜ r ≡ freeIn (now (keys .entry)) (ruleAt (meaning (now (book .entry))) place) ⌝ }
+{
+    match book.rule(place) {
+        Some(head) => first_place(keys, &head.key).is_none(),
+        None => false,
+    }
+}
