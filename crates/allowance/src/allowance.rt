@@ -1,6 +1,6 @@
 // An allowance: the book below, with one key counted down.
-use lock::Places;
 use crate::setting::Setting;
+use lock::Places;
 
 pub mod book;
 pub mod calls;

@@ -4,9 +4,11 @@ ghost use Rattle.std.specs.Of.String.{string-bytes};
 ghost use Rattle.std.specs.Vec.{made};
 ghost use Rattle.listing.specs.Whole.{refusalLine, planText, inputText};
 use crate::list;
+use allowance::AllowanceBook;
 use image::Image;
 use image::ImageBook;
 use image::Refusal;
+use lock::LockBook;
 use std::alloc::AllocError;
 use std::alloc::Global;
 
@@ -25,7 +27,10 @@ fn show_plan(heap: Global, words: &[u32]) -> Result<String, AllocError>
 {
     let mut plan = Image::new();
     match plan.load(words) {
-        Ok(_) => list(heap, &plan),
+        Ok(_) => {
+            let book = pile::over(heap, plan)?;
+            list(heap, &book)
+        }
         Err(refusal) => refusal_line(heap, refusal),
     }
 }

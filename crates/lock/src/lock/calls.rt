@@ -36,6 +36,15 @@ impl<B: RuleBook> Lock<B> {
             places,
         })
     }
+
+    // Lists the rules below whose keys are not locked.
+    fn list_anew(&mut self)
+        ensures below { λ _. ⌜ now (self .exit) .below ≡ now (self .entry) .below ⌝ }
+        ensures keys { λ _. ⌜ now (self .exit) .keys ≡ now (self .entry) .keys ⌝ }
+        ensures meaning { λ _. ⌜ lockBook meaning (now (self .exit)) ≡ locked (keysOf (now (self .entry))) (meaning (now (self .entry) .below)) ⌝ }
+    {
+        self.places.refill(&self.below, self.keys.as_slice());
+    }
 }
 
 pub impl<B: RuleBook> Lockable for Lock<B> as LockLockable {
@@ -45,7 +54,7 @@ pub impl<B: RuleBook> Lockable for Lock<B> as LockLockable {
 
     fn lock(&mut self, key: Key) -> Result<usize, LockRefusal> {
         let count = self.keys.lock(key)?;
-        self.places.refill(&self.below, self.keys.as_slice());
+        self.list_anew();
         Ok(count)
     }
 }
@@ -59,7 +68,7 @@ impl<B: Lockable> Lock<B> {
         ensures same { λ r. ⌜ (isOk r ≡ false → now (self .exit) ≡ now (self .entry)) ⌝ }
     {
         let locked = self.below.lock(key)?;
-        self.places.refill(&self.below, self.keys.as_slice());
+        self.list_anew();
         Ok(locked)
     }
 }

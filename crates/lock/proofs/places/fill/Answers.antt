@@ -20,14 +20,16 @@ loop-place-again g c =
     let whole : List ℕ = placesFrom (free keys) 0 rules in
     let later : List ℕ = placesFrom (free keys) (i + 1) (drop (i + 1) rules) in
     elim (c .if-is-free .came) [
-      then-is-free w ↦ (
+      | then-is-free w ↦ (
         ap (λ v. vec-items v ++ later) (w .list-is) ∙ ap (λ xs. xs ++ later) (w .push-reserved .ensures .items) ∙ gathered-more keys rules i before whole (sym (w .if-is-free .ensures tt)) (c .loop-place .inv .0),
         omega (arith, ap vec-len (w .list-is), w .push-reserved .ensures .len),
-        ap vec-cap (w .list-is) ∙ w .push-reserved .ensures .capacity ∙ c .loop-place .inv .2)
+        ap vec-cap (w .list-is) ∙ w .push-reserved .ensures .capacity ∙ c .loop-place .inv .2,
+      )
       | else-is-free w ↦ (
         ap (λ v. vec-items v ++ later) (w .list-is) ∙ gathered-same keys rules i before whole (sym (w .if-is-free .ensures tt)) (c .loop-place .inv .0),
         omega (arith, ap vec-len (w .list-is)),
-        ap vec-cap (w .list-is) ∙ c .loop-place .inv .2)
+        ap vec-cap (w .list-is) ∙ c .loop-place .inv .2,
+      )
     ]
 
 pub returns : need.returns

@@ -1,0 +1,28 @@
+// The pile of books that the program stands on: an allowance over a lock over the image of a plan.
+ghost use mathlib.Core.Path.{_≡_};
+ghost use Rattle.std.specs.Vec.{made};
+ghost use Rattle.image.specs.Held.{bookIn};
+ghost use Rattle.pile.specs.Pile.{pileBook};
+
+#[cfg(test)]
+mod tests;
+
+use allowance::Allowance;
+use image::Image;
+use image::ImageBook;
+use lock::Lock;
+use lock::LockBook;
+use std::alloc::AllocError;
+use std::alloc::Global;
+
+// The layers over a plan's image.
+pub type Pile<'a> = Allowance<Lock<Image<'a>>>;
+
+// The pile over a plan, with no key locked and the allowance not set: it lists what the plan lists.
+pub fn over<'a>(heap: Global, plan: Image<'a>) -> Result<Pile<'a>, AllocError>
+    ensures { λ r. ⌜ made r (λ p. pileBook p ≡ bookIn (plan .entry)) ⌝ }
+{
+    let lock = Lock::new(heap, plan)?;
+    let allowance = Allowance::new(heap, lock)?;
+    Ok(allowance)
+}
