@@ -12,6 +12,7 @@ use Rattle.std.specs.declared.result.Result.{Result}
 use Rattle.std.specs.declared.result.Result.the-variants.{Ok, Err}
 use Rattle.rulebook.specs.Book.{Book, Rule}
 use Rattle.rulebook.specs.Search.{firstOf}
+use Rattle.rulebook.specs.declared.told.Screens.the-variants.{Gone}
 use Rattle.lock.specs.declared.refusal.LockRefusal.{LockRefusal}
 use Rattle.lock.specs.declared.refusal.LockRefusal.the-variants.{NoSuchKey, AlreadyLocked, Full}
 
@@ -35,6 +36,15 @@ lockAnswer keys key =
 -- The keys that are locked after it: one more, or the same where it was refused.
 abbrev pub keysAfter : List ℕ → ℕ → List ℕ
 keysAfter keys key = cond (isOk (lockAnswer keys key)) (keys ++ key ∷ []) keys
+
+-- of three rules, of keys 3, 4 and 3, the second is listed where key 3 is locked
+abbrev ruleOf : ℕ → Rule
+ruleOf key = record { key = key; mode = 0; screen = 0; answers = record { mode = 0; screens = Gone } ∷ [] }
+
+example-lists :
+    locked (3 ∷ []) (record { modes = 1; screens = 1; rules = ruleOf 3 ∷ ruleOf 4 ∷ ruleOf 3 ∷ [] })
+    ≡ record { modes = 1; screens = 1; rules = ruleOf 4 ∷ [] }
+example-lists = refl
 
 example-locked : keysAfter (3 ∷ []) 5 ≡ 3 ∷ 5 ∷ []
 example-locked = refl

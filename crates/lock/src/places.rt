@@ -1,6 +1,6 @@
 // Places in the book below, in rising order, with room for those of any book.
 ghost use mathlib.Core.Bool.{true};
-ghost use mathlib.Core.List.{List};
+ghost use mathlib.Core.List.{List, []};
 ghost use mathlib.Core.Path.{_≡_};
 ghost use Prim.Native.Nat.{_≤_};
 ghost use lib.ListN.{length};
@@ -28,7 +28,8 @@ pub struct Places {
 impl Places {
     // The places of the rules of `book` whose key is not among `keys`.
     pub fn new<B: RuleBook>(heap: Global, book: &B, keys: &[Key]) -> Result<Places, AllocError>
-        ensures { λ r. ⌜ made r (λ s. picked (vec-items (s .list)) (meaning (now (book .entry))) ≡ locked (now (keys .entry)) (meaning (now (book .entry)))) ⌝ }
+        ensures lists { λ r. ⌜ made r (λ s. picked (vec-items (s .list)) (meaning (now (book .entry))) ≡ locked (now (keys .entry)) (meaning (now (book .entry)))) ⌝ }
+        ensures whole { λ r. ⌜ made r (λ s. now (keys .entry) ≡ [] → picked (vec-items (s .list)) (meaning (now (book .entry))) ≡ meaning (now (book .entry))) ⌝ }
     {
         let mut list = Vec::with_capacity(heap, 65_535)?;
         fill(&mut list, book, keys);
@@ -46,30 +47,46 @@ impl Places {
     pub fn find(&self, k: usize) -> Option<usize>
         ensures { λ r. ⌜ ((rules : List Rule) → nth (picks (vec-items (now (self .entry) .list)) rules) k ≡ standsAt r rules) ⌝ }
     {
-        if k < self.list.len() {
-            Some(self.list[k])
-        } else {
-            None
-        }
+        place_at(&self.list, k)
     }
 
-    // How many of the places have a rule of `book`.
+    // How many rules of `book` these places pick.
     pub fn count<B: RuleBook>(&self, book: &B) -> usize
         ensures { λ r. ⌜ r ≡ length (picks (vec-items (now (self .entry) .list)) (meaning (now (book .entry)) .rules)) ⌝ }
     {
-        let rules = book.rules();
-        let mut count = self.list.len();
-        while count > 0 && self.list[count - 1] >= rules {
-            count -= 1;
-        }
-        count
+        places_below(&self.list, book.rules())
     }
+}
+
+// The place at `k` of a rising list.
+fn place_at(list: &Vec<usize>, k: usize) -> Option<usize>
+    requires { ⌜ risesFrom 0 (vec-items (now list)) ≡ true ⌝ }
+    ensures { λ r. ⌜ ((rules : List Rule) → nth (picks (vec-items (now (list .entry))) rules) k ≡ standsAt r rules) ⌝ }
+{
+    if k < list.len() {
+        Some(list[k])
+    } else {
+        None
+    }
+}
+
+// How many places of a rising list are below `rules`.
+fn places_below(list: &Vec<usize>, rules: usize) -> usize
+    requires { ⌜ risesFrom 0 (vec-items (now list)) ≡ true ⌝ }
+    ensures { λ r. ⌜ ((all : List Rule) → rules ≡ length all → r ≡ length (picks (vec-items (now (list .entry))) all)) ⌝ }
+{
+    let mut count = list.len();
+    while count > 0 && list[count - 1] >= rules {
+        count -= 1;
+    }
+    count
 }
 
 // Fills `list` with the places of the rules of `book` whose key is not among `keys`, in their order.
 fn fill<B: RuleBook>(list: &mut Vec<usize>, book: &B, keys: &[Key])
     requires { ⌜ 65535 ≤ vec-cap (now list) ⌝ }
     ensures lists { λ _. ⌜ picked (vec-items (now (list .exit))) (meaning (now (book .entry))) ≡ locked (now (keys .entry)) (meaning (now (book .entry))) ⌝ }
+    ensures whole { λ _. ⌜ (now (keys .entry) ≡ [] → picked (vec-items (now (list .exit))) (meaning (now (book .entry))) ≡ meaning (now (book .entry))) ⌝ }
     ensures rises { λ _. ⌜ risesFrom 0 (vec-items (now (list .exit))) ≡ true ⌝ }
     ensures capacity { λ _. ⌜ vec-cap (now (list .exit)) ≡ vec-cap (now (list .entry)) ⌝ }
 {

@@ -4,9 +4,9 @@ use Prim.Native.Nat.{ℕ, _+_}
 use native.Mathlib.Omega.{arith}
 use lib.ListN.{drop}
 use Rattle.std.specs.Of.Vec.{vec-items, vec-len, vec-cap}
-use Rattle.lock.specs.Locked.{free}
+use Rattle.lock.specs.Locked.{free, locked}
 use Rattle.lock.specs.Places.{placesFrom, risesFrom}
-use Rattle.lock.proofs.Listing.{picked-locked}
+use Rattle.lock.proofs.Listing.{picked-locked, locked-none}
 use Rattle.lock.proofs.Standing.{gathered-more, gathered-same, gathered-all, places-rise}
 use Rattle.lock.proofs.places.fill.Needs as need
 use Rattle.lock.proofs.places.fill.Needs.{then-is-free, else-is-free}
@@ -36,10 +36,12 @@ pub returns : need.returns
 returns g c =
     let rules = g .B·RuleBook .meaning (c .args .book .now) .rules in
     let keys : List ℕ = c .args .keys .now in
+    let book = g .B·RuleBook .meaning (c .args .book .now) in
     let items : vec-items (c .loop-place .list) ≡ placesFrom (free keys) 0 rules =
     gathered-all keys rules (c .loop-place .place) (vec-items (c .loop-place .list)) (placesFrom (free keys) 0 rules) (omega arith) (c .loop-place .inv .0) in
     record {
-      lists = picked-locked (vec-items (c .loop-place .list)) keys (g .B·RuleBook .meaning (c .args .book .now)) items;
+      lists = picked-locked (vec-items (c .loop-place .list)) keys book items;
+      whole = λ none. picked-locked (vec-items (c .loop-place .list)) keys book items ∙ ap (λ (ks : List ℕ). locked ks book) none ∙ locked-none book;
       rises = ap (risesFrom 0) items ∙ places-rise (free keys) 0 rules;
       capacity = c .loop-place .inv .2 ∙ c .clear .ensures .capacity;
     }
