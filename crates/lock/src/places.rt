@@ -63,11 +63,7 @@ fn place_at(list: &Vec<usize>, k: usize) -> Option<usize>
     requires { ⌜ risesFrom 0 (vec-items (now list)) ≡ true ⌝ }
     ensures { λ r. ⌜ ((rules : List Rule) → nth (picks (vec-items (now (list .entry))) rules) k ≡ standsAt r rules) ⌝ }
 {
-    if k < list.len() {
-        Some(list[k])
-    } else {
-        None
-    }
+    if k < list.len() { Some(list[k]) } else { None }
 }
 
 // How many places of a rising list are below `rules`.
