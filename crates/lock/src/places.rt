@@ -9,8 +9,8 @@ ghost use Rattle.std.specs.Vec.{made};
 ghost use Rattle.std.specs.shelf.Maps.{nth};
 ghost use Rattle.rulebook.specs.Book.{Rule, ruleAt};
 ghost use Rattle.lock.specs.Formed.{picked};
-ghost use Rattle.lock.specs.Locked.{locked};
-ghost use Rattle.lock.specs.Places.{risesFrom, picks, standsAt, freeIn};
+ghost use Rattle.lock.specs.Locked.{free, locked};
+ghost use Rattle.lock.specs.Places.{placesOf, risesFrom, picks, standsAt, freeIn};
 use rulebook::Key;
 use rulebook::KeySame;
 use rulebook::RuleBook;
@@ -28,6 +28,7 @@ pub struct Places {
 impl Places {
     // The places of the rules of `book` whose key is not among `keys`.
     pub fn new<B: RuleBook>(heap: Global, book: &B, keys: &[Key]) -> Result<Places, AllocError>
+        ensures items { λ r. ⌜ made r (λ s. vec-items (s .list) ≡ placesOf (free (now (keys .entry))) (meaning (now (book .entry)) .rules)) ⌝ }
         ensures lists { λ r. ⌜ made r (λ s. picked (vec-items (s .list)) (meaning (now (book .entry))) ≡ locked (now (keys .entry)) (meaning (now (book .entry)))) ⌝ }
         ensures whole { λ r. ⌜ made r (λ s. now (keys .entry) ≡ [] → picked (vec-items (s .list)) (meaning (now (book .entry))) ≡ meaning (now (book .entry))) ⌝ }
     {
@@ -38,14 +39,16 @@ impl Places {
 
     // Takes the places of the rules of `book` whose key is not among `keys` instead.
     pub fn refill<B: RuleBook>(&mut self, book: &B, keys: &[Key])
-        ensures { λ _. ⌜ picked (vec-items (now (self .exit) .list)) (meaning (now (book .entry))) ≡ locked (now (keys .entry)) (meaning (now (book .entry))) ⌝ }
+        ensures items { λ _. ⌜ vec-items (now (self .exit) .list) ≡ placesOf (free (now (keys .entry))) (meaning (now (book .entry)) .rules) ⌝ }
+        ensures lists { λ _. ⌜ picked (vec-items (now (self .exit) .list)) (meaning (now (book .entry))) ≡ locked (now (keys .entry)) (meaning (now (book .entry))) ⌝ }
     {
         fill(&mut self.list, book, keys);
     }
 
-    // The place at which the `k`-th of the rules stands that these places pick out of any list, or none where they pick no such rule.
+    // The `k`-th place, or none beyond the last. Out of any list, the `k`-th rule that these places pick stands there.
     pub fn find(&self, k: usize) -> Option<usize>
-        ensures { λ r. ⌜ ((rules : List Rule) → nth (picks (vec-items (now (self .entry) .list)) rules) k ≡ standsAt r rules) ⌝ }
+        ensures value { λ r. ⌜ r ≡ nth (vec-items (now (self .entry) .list)) k ⌝ }
+        ensures stands { λ r. ⌜ ((rules : List Rule) → nth (picks (vec-items (now (self .entry) .list)) rules) k ≡ standsAt r rules) ⌝ }
     {
         place_at(&self.list, k)
     }
@@ -61,7 +64,8 @@ impl Places {
 // The place at `k` of a rising list.
 fn place_at(list: &Vec<usize>, k: usize) -> Option<usize>
     requires { ⌜ risesFrom 0 (vec-items (now list)) ≡ true ⌝ }
-    ensures { λ r. ⌜ ((rules : List Rule) → nth (picks (vec-items (now (list .entry))) rules) k ≡ standsAt r rules) ⌝ }
+    ensures value { λ r. ⌜ r ≡ nth (vec-items (now (list .entry))) k ⌝ }
+    ensures stands { λ r. ⌜ ((rules : List Rule) → nth (picks (vec-items (now (list .entry))) rules) k ≡ standsAt r rules) ⌝ }
 {
     if k < list.len() { Some(list[k]) } else { None }
 }
@@ -81,6 +85,7 @@ fn places_below(list: &Vec<usize>, rules: usize) -> usize
 // Fills `list` with the places of the rules of `book` whose key is not among `keys`, in their order.
 fn fill<B: RuleBook>(list: &mut Vec<usize>, book: &B, keys: &[Key])
     requires { ⌜ 65535 ≤ vec-cap (now list) ⌝ }
+    ensures items { λ _. ⌜ vec-items (now (list .exit)) ≡ placesOf (free (now (keys .entry))) (meaning (now (book .entry)) .rules) ⌝ }
     ensures lists { λ _. ⌜ picked (vec-items (now (list .exit))) (meaning (now (book .entry))) ≡ locked (now (keys .entry)) (meaning (now (book .entry))) ⌝ }
     ensures whole { λ _. ⌜ (now (keys .entry) ≡ [] → picked (vec-items (now (list .exit))) (meaning (now (book .entry))) ≡ meaning (now (book .entry))) ⌝ }
     ensures rises { λ _. ⌜ risesFrom 0 (vec-items (now (list .exit))) ≡ true ⌝ }

@@ -40,6 +40,7 @@ returns g c =
     let items : vec-items (c .loop-place .list) ≡ placesFrom (free keys) 0 rules =
     gathered-all keys rules (c .loop-place .place) (vec-items (c .loop-place .list)) (placesFrom (free keys) 0 rules) (omega arith) (c .loop-place .inv .0) in
     record {
+      items = items;
       lists = picked-locked (vec-items (c .loop-place .list)) keys book items;
       whole = λ none. picked-locked (vec-items (c .loop-place .list)) keys book items ∙ ap (λ (ks : List ℕ). locked ks book) none ∙ locked-none book;
       rises = ap (risesFrom 0) items ∙ places-rise (free keys) 0 rules;

@@ -14,14 +14,14 @@ pub returns-in-Break-place : need.returns-in-Break-place
 returns-in-Break-place g c =
     let b = g .B·RuleBook .meaning (c .args .self .now .below) in
     let s = c .args .setting in
-    let none = origin-first (s .key) (s .most) (b .modes) (picks (vec-items (c .args .self .now .first .list)) (b .rules)) (b .rules) (c .args .k) (c .count-first .result) None (c .count-first .ensures) (c .if-k-first .taken) (c .in-Break-place .ensures tt (b .rules)) in
+    let none = origin-first (s .key) (s .most) (b .modes) (picks (vec-items (c .args .self .now .first .list)) (b .rules)) (b .rules) (c .args .k) (c .count-first .result) None (c .count-first .ensures) (c .if-k-first .taken) (c .in-Break-place .ensures tt .stands (b .rules)) in
     rw (c .from-residual .ensures) none
 
 pub returns-then-k-first : need.returns-then-k-first
 returns-then-k-first g c =
     let b = g .B·RuleBook .meaning (c .args .self .now .below) in
     let s = c .args .setting in
-    (origin-first (s .key) (s .most) (b .modes) (picks (vec-items (c .args .self .now .first .list)) (b .rules)) (b .rules) (c .args .k) (c .count-first .result) (nth (b .rules) (c .in-Continue-place .place)) (c .count-first .ensures) (c .if-k-first .taken) (c .in-Continue-place .ensures tt (b .rules)), omega arith)
+    (origin-first (s .key) (s .most) (b .modes) (picks (vec-items (c .args .self .now .first .list)) (b .rules)) (b .rules) (c .args .k) (c .count-first .result) (nth (b .rules) (c .in-Continue-place .place)) (c .count-first .ensures) (c .if-k-first .taken) (c .in-Continue-place .ensures tt .stands (b .rules)), omega arith)
 
 pub returns-then-rules-eq0 : need.returns-then-rules-eq0
 returns-then-rules-eq0 g c =
