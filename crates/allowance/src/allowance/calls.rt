@@ -73,9 +73,8 @@ impl<B: Lockable> Allowance<B> {
         ensures same { λ r. ⌜ (isOk r ≡ false → now (self .exit) ≡ now (self .entry)) ⌝ }
     {
         let locked = self.below.lock(key)?;
-        match self.setting {
-            Some(setting) => self.first.refill(&self.below, &[setting.key]),
-            None => self.first.refill(&self.below, &[]),
+        if let Some(setting) = self.setting {
+            self.first.refill(&self.below, &[setting.key]);
         }
         Ok(locked)
     }
