@@ -1,2 +1,3 @@
 pub mod AllowanceLaws
+pub mod Lives
 pub mod Origins

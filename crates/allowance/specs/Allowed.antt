@@ -85,7 +85,7 @@ example-allowed = refl
 example-never : allowed 3 0 twoKeys .rules ≡ locked (3 ∷ []) twoKeys .rules
 example-never = refl
 
--- twice two modes for each time: 29 times fit and 30 do not
+-- two modes with each of 0 to 29 left make 60: 29 times fit and 30 do not
 example-fits : setAnswer twoKeys 3 29 ≡ Ok 60
 example-fits = refl
 

@@ -1,4 +1,5 @@
 pub mod LeftOut
 pub mod Listing
+pub mod Lives
 pub mod LockLaws
 pub mod Standing

@@ -1,5 +1,6 @@
 pub mod Formed
 pub mod Laws
+pub mod Life
 pub mod Lock
 pub mod Locked
 pub mod Locking

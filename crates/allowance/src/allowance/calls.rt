@@ -1,11 +1,8 @@
 // Making an allowance, setting it, and locking a key in a lock below it.
-ghost use mathlib.Core.Bool.{true, false, cond};
 ghost use mathlib.Core.Path.{_≡_};
-ghost use Rattle.std.specs.Results.{isOk};
 ghost use Rattle.std.specs.Vec.{made, refused};
-ghost use Rattle.std.specs.declared.option.Option.the-variants.{Some, None};
-ghost use Rattle.allowance.specs.Allowance.{allowanceBook, settingOf};
-ghost use Rattle.allowance.specs.Allowed.{allowed, allowance, setAnswer};
+ghost use Rattle.allowance.specs.Allowed.{allowance, setAnswer};
+ghost use Rattle.allowance.specs.Life.{Made, Sets, Follows, AlwaysAllows};
 ghost use Rattle.lock.specs.Locking.{Locks};
 use crate::allowance::Allowance;
 use crate::allowance::book::AllowanceBook;
@@ -22,10 +19,13 @@ use std::alloc::Refused;
 
 impl<B: RuleBook> Allowance<B> {
     // An allowance over this book, not set: it lists what the book lists. Where memory is wanting the book comes back.
+    // Whatever is called then, an allowance means the book below it under its setting.
     pub fn new(heap: Global, below: B) -> Result<Allowance<B>, Refused<B>>
-        ensures made { λ r. ⌜ made r (λ s. (s .below ≡ below) × (s .setting ≡ None) × (allowanceBook meaning s ≡ meaning below)) ⌝ }
+        ensures made { λ r. ⌜ made r (λ s. Made meaning below s) ⌝ }
         ensures refused { λ r. ⌜ refused r (λ y. y .value ≡ below) ⌝ }
+        ensures lived { λ _. ⌜ AlwaysAllows meaning ⌝ }
     {
+        always_allows(&below);
         let Ok(first) = Places::new(heap, &below, &[]) else {
             return Err(Refused { value: below });
         };
@@ -38,11 +38,7 @@ impl<B: RuleBook> Allowance<B> {
 
     // Lets the key be pressed `most` times, in place of an earlier setting, and answers how many modes there are then. A refusal changes nothing.
     pub fn set(&mut self, key: Key, most: u8) -> Result<u8, SettingRefusal>
-        ensures value { λ r. ⌜ r ≡ setAnswer (meaning (now (self .entry) .below)) key most ⌝ }
-        ensures below { λ _. ⌜ now (self .exit) .below ≡ now (self .entry) .below ⌝ }
-        ensures setting { λ r. ⌜ now (self .exit) .setting ≡ cond (isOk r) (Some (settingOf key most)) (now (self .entry) .setting) ⌝ }
-        ensures meaning { λ r. ⌜ (isOk r ≡ true → allowanceBook meaning (now (self .exit)) ≡ allowed key most (meaning (now (self .entry) .below))) ⌝ }
-        ensures same { λ r. ⌜ (isOk r ≡ false → now (self .exit) ≡ now (self .entry)) ⌝ }
+        ensures { λ r. ⌜ Sets meaning (now (self .entry)) key most r (now (self .exit)) ⌝ }
     {
         let modes = admit(&self.below, key, most)?;
         self.setting = Some(Setting { key, most });
@@ -68,9 +64,7 @@ impl<B: Lockable> Allowance<B> {
     // Locks a key in the lock below, and answers how many are locked there then. The setting stays, and the rules follow the book below. A refusal changes nothing.
     pub fn lock_below(&mut self, key: Key) -> Result<usize, LockRefusal>
         ensures below { λ r. ⌜ Locks keys under (B·RuleBook .meaning) (now (self .entry) .below) key r (now (self .exit) .below) ⌝ }
-        ensures setting { λ _. ⌜ now (self .exit) .setting ≡ now (self .entry) .setting ⌝ }
-        ensures meaning { λ r. ⌜ (isOk r ≡ true → allowanceBook (B·RuleBook .meaning) (now (self .exit)) ≡ allowance (now (self .entry) .setting) (B·RuleBook .meaning (now (self .exit) .below))) ⌝ }
-        ensures same { λ r. ⌜ (isOk r ≡ false → now (self .exit) ≡ now (self .entry)) ⌝ }
+        ensures follows { λ r. ⌜ Follows (B·RuleBook .meaning) (now (self .entry)) r (now (self .exit)) ⌝ }
     {
         let locked = self.below.lock(key)?;
         if let Some(setting) = self.setting {
@@ -89,3 +83,8 @@ pub impl<B: Lockable> Lockable for Allowance<B> as AllowanceLockable {
         self.lock_below(key)
     }
 }
+
+// What an allowance over such a book means in its whole life.
+fn always_allows<B: RuleBook>(_below: &B)
+    ensures { λ _. ⌜ AlwaysAllows meaning ⌝ }
+{}

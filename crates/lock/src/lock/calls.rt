@@ -1,9 +1,7 @@
 // Making a lock, locking a key in it, and locking one in a lock below it.
-ghost use mathlib.Core.Bool.{true, false};
-ghost use mathlib.Core.List.{[]};
 ghost use mathlib.Core.Path.{_≡_};
-ghost use Rattle.std.specs.Results.{isOk};
 ghost use Rattle.std.specs.Vec.{made, refused};
+ghost use Rattle.lock.specs.Life.{Made, Follows, AlwaysLists};
 ghost use Rattle.lock.specs.Lock.{keysOf, lockBook, lockUnder};
 ghost use Rattle.lock.specs.Locked.{locked};
 ghost use Rattle.lock.specs.Locking.{Locks};
@@ -20,10 +18,13 @@ use std::alloc::Refused;
 
 impl<B: RuleBook> Lock<B> {
     // A lock over this book, with no key locked: it lists what the book lists. Where memory is wanting the book comes back.
+    // Whatever is called then, a lock means the book below it without the rules of its locked keys.
     pub fn new(heap: Global, below: B) -> Result<Lock<B>, Refused<B>>
-        ensures made { λ r. ⌜ made r (λ s. (s .below ≡ below) × (keysOf s ≡ []) × (lockBook meaning s ≡ locked [] (meaning below)) × (lockBook meaning s ≡ meaning below)) ⌝ }
+        ensures made { λ r. ⌜ made r (λ s. Made meaning below s) ⌝ }
         ensures refused { λ r. ⌜ refused r (λ y. y .value ≡ below) ⌝ }
+        ensures lived { λ _. ⌜ AlwaysLists meaning ⌝ }
     {
+        always_lists(&below);
         let Ok(keys) = Keys::new(heap) else {
             return Err(Refused { value: below });
         };
@@ -63,12 +64,15 @@ impl<B: Lockable> Lock<B> {
     // Locks a key in the lock below this one, and answers how many are locked there then. A refusal changes nothing.
     pub fn lock_below(&mut self, key: Key) -> Result<usize, LockRefusal>
         ensures below { λ r. ⌜ Locks keys under (B·RuleBook .meaning) (now (self .entry) .below) key r (now (self .exit) .below) ⌝ }
-        ensures keys { λ _. ⌜ keysOf (now (self .exit)) ≡ keysOf (now (self .entry)) ⌝ }
-        ensures meaning { λ r. ⌜ (isOk r ≡ true → lockBook (B·RuleBook .meaning) (now (self .exit)) ≡ locked (keysOf (now (self .entry))) (B·RuleBook .meaning (now (self .exit) .below))) ⌝ }
-        ensures same { λ r. ⌜ (isOk r ≡ false → now (self .exit) ≡ now (self .entry)) ⌝ }
+        ensures follows { λ r. ⌜ Follows (B·RuleBook .meaning) (now (self .entry)) r (now (self .exit)) ⌝ }
     {
         let locked = self.below.lock(key)?;
         self.list_anew();
         Ok(locked)
     }
 }
+
+// What a lock over such a book means in its whole life.
+fn always_lists<B: RuleBook>(_below: &B)
+    ensures { λ _. ⌜ AlwaysLists meaning ⌝ }
+{}
