@@ -1,4 +1,5 @@
 -- The life of an allowance: it is made, and then set, and keys are locked below it, in any order and any number of times, refusals included.
+-- Below it a book changes by locks alone, which leave out rules and change nothing else.
 use mathlib.Core.Path.{_≡_}
 use mathlib.Core.Bool.{true, false, cond}
 use Prim.Native.Nat.{ℕ}
@@ -6,9 +7,10 @@ use Rattle.std.specs.Results.{isOk}
 use Rattle.std.specs.declared.option.Option.the-variants.{Some, None}
 use Rattle.std.specs.declared.result.Result.{Result}
 use Rattle.rulebook.specs.Book.{Book}
+use Rattle.lock.specs.Narrower.{Narrower}
 use Rattle.lock.specs.declared.refusal.LockRefusal.{LockRefusal}
 use Rattle.allowance.specs.Allowance.{allowanceBook, settingOf}
-use Rattle.allowance.specs.Allowed.{allowed, allowance, setAnswer}
+use Rattle.allowance.specs.Allowed.{allowed, under, allowance, setAnswer}
 use Rattle.allowance.specs.declared.allowance.Allowance.{Allowance}
 use Rattle.allowance.specs.declared.refusal.SettingRefusal.{SettingRefusal}
 
@@ -38,8 +40,8 @@ module _ {B : Type 0} (m : B → Book) where
   pub data Lived : Allowance B → Type 0 where
     made : (book : B) (s : Allowance B) → Made book s → Lived s
     sets : (s : Allowance B) (key A : ℕ) (r : Result ℕ SettingRefusal) (t : Allowance B) → Lived s → Sets s key A r t → Lived t
-    follows : (s : Allowance B) (r : Result ℕ LockRefusal) (t : Allowance B) → Lived s → Follows s r t → Lived t
+    follows : (s : Allowance B) (r : Result ℕ LockRefusal) (t : Allowance B) → Lived s → Follows s r t → Narrower (m (s .below)) (m (t .below)) → Lived t
 
--- Whatever was called, an allowance means the book below under its setting.
+-- Whatever was called, an allowance means the book below with its key counted down as it is set, or the book below where it is not set: a setting that fitted goes on to fit.
 abbrev pub AlwaysAllows : {B : Type 0} → (B → Book) → Type 0
-AlwaysAllows {B} m = (s : Allowance B) → Lived m s → allowanceBook m s ≡ allowance (s .setting) (m (s .below))
+AlwaysAllows {B} m = (s : Allowance B) → Lived m s → allowanceBook m s ≡ under (s .setting) (m (s .below))

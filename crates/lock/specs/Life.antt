@@ -9,6 +9,7 @@ use Rattle.rulebook.specs.Book.{Book}
 use Rattle.lock.specs.Lock.{keysOf, lockBook, lockUnder}
 use Rattle.lock.specs.Locked.{locked}
 use Rattle.lock.specs.Locking.{Locks}
+use Rattle.lock.specs.Narrower.{Narrower}
 use Rattle.lock.specs.declared.lock.Lock.{Lock}
 use Rattle.lock.specs.declared.refusal.LockRefusal.{LockRefusal}
 
@@ -36,3 +37,8 @@ module _ {B : Type 0} (m : B → Book) where
 -- Whatever was called, a lock means the book below without the rules of its locked keys.
 abbrev pub AlwaysLists : {B : Type 0} → (B → Book) → Type 0
 AlwaysLists {B} m = (s : Lock B) → Lived m s → lockBook m s ≡ locked (keysOf s) (m (s .below))
+
+-- Whatever was called before, locking a key leaves out rules and changes nothing else.
+abbrev pub OnlyLeavesOut : {B : Type 0} → (B → Book) → Type 0
+OnlyLeavesOut {B} m =
+    (s : Lock B) (key : ℕ) (r : Result ℕ LockRefusal) (t : Lock B) → Lived m s → Locks keysOf (lockUnder m) (lockBook m) s key r t → Narrower (lockBook m s) (lockBook m t)

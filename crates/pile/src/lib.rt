@@ -2,6 +2,7 @@
 ghost use mathlib.Core.Path.{_≡_};
 ghost use Rattle.std.specs.Vec.{made};
 ghost use Rattle.image.specs.Held.{bookIn};
+ghost use Rattle.pile.specs.Life.{PileMade, PileStands};
 ghost use Rattle.pile.specs.Pile.{pileBook};
 
 #[cfg(test)]
@@ -19,10 +20,19 @@ use std::alloc::Global;
 pub type Pile<'a> = Allowance<Lock<Image<'a>>>;
 
 // The pile over a plan, with no key locked and the allowance not set: it lists what the plan lists.
+// Whatever keys are locked and whatever is set then, in any order, it means the plan under the locked keys and the setting.
 pub fn over<'a>(heap: Global, plan: Image<'a>) -> Result<Pile<'a>, AllocError>
-    ensures { λ r. ⌜ made r (λ p. pileBook p ≡ bookIn (plan .entry)) ⌝ }
+    ensures meaning { λ r. ⌜ made r (λ p. pileBook p ≡ bookIn (plan .entry)) ⌝ }
+    ensures made { λ r. ⌜ made r (λ p. PileMade (plan .entry) p) ⌝ }
+    ensures lived { λ _. ⌜ PileStands ⌝ }
 {
+    pile_lives();
     let lock = Lock::new(heap, plan)?;
     let allowance = Allowance::new(heap, lock)?;
     Ok(allowance)
 }
+
+// What the pile means in its whole life.
+fn pile_lives()
+    ensures { λ _. ⌜ PileStands ⌝ }
+{}

@@ -1,7 +1,7 @@
 // Making a lock, locking a key in it, and locking one in a lock below it.
 ghost use mathlib.Core.Path.{_≡_};
 ghost use Rattle.std.specs.Vec.{made, refused};
-ghost use Rattle.lock.specs.Life.{Made, Follows, AlwaysLists};
+ghost use Rattle.lock.specs.Life.{Made, Follows, AlwaysLists, OnlyLeavesOut};
 ghost use Rattle.lock.specs.Lock.{keysOf, lockBook, lockUnder};
 ghost use Rattle.lock.specs.Locked.{locked};
 ghost use Rattle.lock.specs.Locking.{Locks};
@@ -18,13 +18,14 @@ use std::alloc::Refused;
 
 impl<B: RuleBook> Lock<B> {
     // A lock over this book, with no key locked: it lists what the book lists. Where memory is wanting the book comes back.
-    // Whatever is called then, a lock means the book below it without the rules of its locked keys.
+    // Whatever is called then, a lock means the book below it without the rules of its locked keys, and locking one more leaves out rules and changes nothing else.
     pub fn new(heap: Global, below: B) -> Result<Lock<B>, Refused<B>>
         ensures made { λ r. ⌜ made r (λ s. Made meaning below s) ⌝ }
         ensures refused { λ r. ⌜ refused r (λ y. y .value ≡ below) ⌝ }
         ensures lived { λ _. ⌜ AlwaysLists meaning ⌝ }
+        ensures narrows { λ _. ⌜ OnlyLeavesOut meaning ⌝ }
     {
-        always_lists(&below);
+        lock_lives(&below);
         let Ok(keys) = Keys::new(heap) else {
             return Err(Refused { value: below });
         };
@@ -72,7 +73,8 @@ impl<B: Lockable> Lock<B> {
     }
 }
 
-// What a lock over such a book means in its whole life.
-fn always_lists<B: RuleBook>(_below: &B)
-    ensures { λ _. ⌜ AlwaysLists meaning ⌝ }
+// What a lock over such a book means in its whole life, and what a key locked in it then does.
+fn lock_lives<B: RuleBook>(_below: &B)
+    ensures lived { λ _. ⌜ AlwaysLists meaning ⌝ }
+    ensures narrows { λ _. ⌜ OnlyLeavesOut meaning ⌝ }
 {}
