@@ -19,10 +19,10 @@ use Rattle.allowance.specs.Allowance.{settingOf}
 use Rattle.allowance.specs.Allowed.{leveled, allowed, allowedAt, fits, under}
 use Rattle.allowance.specs.Laws.{AllowancesKeepFormed, UnsetListsBelow, hasKey, RuleCount, AllowancesPassOn, FittingLasts}
 use Rattle.allowance.specs.Levels.{fits-parts, length-leveled, allowed-at-formed}
-use Rattle.lock.specs.Locked.{among, free}
+use Rattle.lock.specs.Locked.{free}
 use Rattle.allowance.specs.Moved.{ruleWith}
-use Rattle.lock.specs.Narrower.{LeavesOut, Narrower}
-use Rattle.lock.specs.Places.{placesOf, picks}
+use Rattle.lock.specs.Narrower.{LeavesOut}
+use Rattle.lock.specs.Places.{placesOf}
 use Rattle.lock.proofs.LeftOut.{left-out-length, left-out-append, left-out-map, left-out-joined, left-out-kept}
 use Rattle.lock.proofs.Standing.{picks-places, places-rise}
 

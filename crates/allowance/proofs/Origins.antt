@@ -3,8 +3,7 @@ use mathlib.Core.Path.{_≡_, refl, sym, ap, _∙_}
 use mathlib.Core.List.{List, [], _∷_, _++_, map}
 use Prim.Native.Nat.{ℕ, zero, suc, _+_, _-_, _*_, _/_, _%_, _<_, _≤_}
 use native.Mathlib.Omega.{arith}
-use native.Mathlib.Nat.{suc-mul, zero-mul, mul-zero, div-add-mod', mod-lt, mul-le-mul-right, mul-le-mul-left, mul-add, mul-one}
-use native.Mathlib.Numerals.{add-one}
+use native.Mathlib.Nat.{suc-mul, zero-mul, div-add-mod', mod-lt, mul-le-mul-right}
 use lib.ListN.{length}
 use Rattle.std.specs.Iters.{counting}
 use Rattle.std.specs.Options.{mapped}
@@ -14,11 +13,11 @@ use Rattle.std.proofs.shelf.Lists.{length-map}
 use Rattle.std.proofs.shelf.Maps.{nth-past}
 use Rattle.std.specs.declared.option.Option.{Option}
 use Rattle.std.specs.declared.option.Option.the-variants.{Some, None}
-use Rattle.rulebook.specs.Book.{Book, Rule, AnswerFits, RuleFits, WellFormed, headOf, headIn, answerIn}
+use Rattle.rulebook.specs.Book.{Rule, AnswerFits, RuleFits, headOf, headIn, answerIn}
 use Rattle.rulebook.specs.declared.told.Answer.{Answer}
 use Rattle.rulebook.specs.declared.told.RuleHead.{RuleHead}
 use Rattle.allowance.specs.Allowed.{leveled}
-use Rattle.allowance.specs.Levels.{length-levels, length-leveled, mode-fits}
+use Rattle.allowance.specs.Levels.{length-leveled, mode-fits}
 use Rattle.allowance.specs.Moved.{modeWith, answerWith, leftAfter, ruleWith, headWith}
 
 module _ {X : Type 0} where

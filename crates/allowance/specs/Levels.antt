@@ -2,11 +2,11 @@
 -- A rule book gives that proof with its meaning, so it stands here and not among the proofs.
 use mathlib.Core.Path.{_≡_, refl, sym, ap, _∙_}
 use mathlib.Core.Bool.{Bool, true, false, cond}
-use mathlib.Core.List.{List, [], _∷_, _++_, map}
+use mathlib.Core.List.{List, map}
 use Prim.Native.Nat.{ℕ, zero, suc, _+_, _-_, _*_, _<_, _≤_}
 use native.Mathlib.Omega.{arith}
 use native.Mathlib.Numerals.{add-one}
-use native.Mathlib.Nat.{mul-add, mul-one, mul-le-mul-left, mul-le-mul-right, suc-mul, zero-mul}
+use native.Mathlib.Nat.{mul-add, mul-one, mul-le-mul-left, suc-mul, zero-mul}
 use lib.Dec.{eqb, leb}
 use lib.ListN.{length}
 use Rattle.std.specs.Iters.{counting}
@@ -16,7 +16,7 @@ use Rattle.std.proofs.shelf.Lists.{length-append, length-map}
 use Rattle.std.proofs.shelf.Tests.{leb-true}
 use Rattle.std.specs.declared.option.Option.{Option}
 use Rattle.std.specs.declared.option.Option.the-variants.{Some, None}
-use Rattle.rulebook.specs.Book.{Book, Rule, ScreensFit, AnswerFits, RuleFits, WellFormed}
+use Rattle.rulebook.specs.Book.{Book, Rule, AnswerFits, RuleFits, WellFormed}
 use Rattle.rulebook.specs.declared.told.Answer.{Answer}
 use Rattle.allowance.specs.Allowed.{leveled, allowedAt, fits, inForce}
 use Rattle.allowance.specs.Allowance.{underAt}

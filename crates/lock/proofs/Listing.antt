@@ -1,13 +1,12 @@
 -- A lock whose places were gathered lists the rules whose keys are free.
 use mathlib.Core.Path.{_≡_, refl, ap, _∙_}
-use mathlib.Core.Bool.{Bool, true}
 use mathlib.Core.List.{List, [], _∷_}
 use Prim.Native.Nat.{ℕ}
 use Rattle.std.specs.shelf.Lists.{kept-by}
 use Rattle.rulebook.specs.Book.{Book, Rule}
 use Rattle.lock.specs.Formed.{picked}
 use Rattle.lock.specs.Locked.{free, locked}
-use Rattle.lock.specs.Places.{placesOf, picks}
+use Rattle.lock.specs.Places.{placesOf}
 use Rattle.lock.proofs.Standing.{picks-places}
 
 abbrev pub bookOf : ℕ → ℕ → List Rule → Book

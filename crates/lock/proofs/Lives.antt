@@ -1,6 +1,5 @@
 -- Whatever was called, a lock means the book below without the rules of its locked keys.
 use mathlib.Core.Path.{_≡_, sym, ap, subst, subst₂, _∙_}
-use mathlib.Core.Bool.{true, false}
 use mathlib.Core.List.{List, [], _∷_, _++_, append-nil}
 use mathlib.Core.Logic.{⊎-elim}
 use Prim.Native.Nat.{ℕ}
@@ -8,7 +7,7 @@ use Rattle.std.specs.Results.{isOk}
 use Rattle.std.specs.declared.result.Result.{Result}
 use Rattle.std.proofs.shelf.Tests.{cases-bool, cond-both}
 use Rattle.rulebook.specs.Book.{Book}
-use Rattle.lock.specs.Life.{Made, Follows, Lived, AlwaysLists, OnlyLeavesOut}
+use Rattle.lock.specs.Life.{Made, Follows, AlwaysLists, OnlyLeavesOut}
 use Rattle.lock.specs.Life.Lived.{made, locks, follows}
 use Rattle.lock.specs.Lock.{keysOf, lockBook, lockUnder}
 use Rattle.lock.specs.Locked.{locked, lockAnswer, keysAfter}

@@ -6,18 +6,17 @@ use mathlib.Core.Logic.{⊎-elim}
 use Prim.Native.Nat.{ℕ, suc}
 use native.Mathlib.Omega.{arith}
 use lib.Dec.{eqb}
-use lib.ListN.{length}
 use Rattle.std.specs.Options.{isSome, mapped}
 use Rattle.std.specs.shelf.Lists.{kept-by}
 use Rattle.std.proofs.shelf.Elements.{all-kept-by}
 use Rattle.std.proofs.shelf.Tests.{cases-bool, cond-true, cond-false}
 use Rattle.std.specs.declared.option.Option.{Option}
 use Rattle.std.specs.declared.option.Option.the-variants.{Some, None}
-use Rattle.rulebook.specs.Book.{Book, Rule, RuleFits, WellFormed}
+use Rattle.rulebook.specs.Book.{Rule, RuleFits}
 use Rattle.rulebook.specs.Search.{firstOf}
 use Rattle.lock.specs.Laws.{LocksKeepFormed, NothingLocked, LocksPile, LocksInEitherOrder, LocksNarrow, LocksPassOn}
-use Rattle.lock.specs.Locked.{among, free, locked}
-use Rattle.lock.specs.Narrower.{LeavesOut, Narrower}
+use Rattle.lock.specs.Locked.{among, free}
+use Rattle.lock.specs.Narrower.{LeavesOut}
 use Rattle.lock.proofs.LeftOut.{kept-leaves-out, left-out-kept, left-out-length}
 use Rattle.lock.proofs.Listing.{bookOf, locked-none}
 

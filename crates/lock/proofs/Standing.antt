@@ -10,9 +10,9 @@ use lib.ListN.{length, getD, take, drop}
 use Rattle.std.specs.Vec.{listOf}
 use Rattle.std.specs.shelf.Lists.{kept-by}
 use Rattle.std.specs.shelf.Maps.{nth}
-use Rattle.std.proofs.shelf.Lists.{length-append, take-all, take-more, drop-all}
-use Rattle.std.proofs.shelf.Maps.{nth-past, nth-getD}
-use Rattle.std.proofs.shelf.Tests.{cond-true, cond-false, le-leb, cases-bool, cases-lt}
+use Rattle.std.proofs.shelf.Lists.{length-append, take-more, drop-all}
+use Rattle.std.proofs.shelf.Maps.{nth-past}
+use Rattle.std.proofs.shelf.Tests.{cond-true, cond-false, le-leb, cases-bool}
 use Rattle.std.specs.declared.option.Option.{Option}
 use Rattle.std.specs.declared.option.Option.the-variants.{Some, None}
 use Rattle.rulebook.specs.Book.{Rule, headIn}

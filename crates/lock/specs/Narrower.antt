@@ -2,7 +2,7 @@
 use mathlib.Core.Path.{_≡_}
 use mathlib.Core.List.{List, [], _∷_}
 use Prim.Native.Nat.{ℕ}
-use Rattle.rulebook.specs.Book.{Book, Rule}
+use Rattle.rulebook.specs.Book.{Book}
 
 -- the first list is the second with some elements left out, in the same order
 pub data LeavesOut {X : Type 0} : List X → List X → Type 0 where

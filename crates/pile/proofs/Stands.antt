@@ -1,13 +1,10 @@
 -- Whatever was called, the pile means the plan under its locked keys and its setting.
 use mathlib.Core.Path.{_≡_, sym, ap, subst, _∙_}
-use mathlib.Core.List.{List}
-use Prim.Native.Nat.{ℕ}
-use Rattle.rulebook.specs.Book.{Book}
 use Rattle.image.specs.Held.{bookIn}
 use Rattle.image.specs.declared.image.Image.{Image}
 use Rattle.lock.specs.Life.{Lived as LockLived}
 use Rattle.lock.specs.Life.Lived.{made as lock-made, locks as lock-locks}
-use Rattle.lock.specs.Lock.{keysOf, lockBook, lockUnder}
+use Rattle.lock.specs.Lock.{keysOf, lockBook}
 use Rattle.lock.specs.Locked.{locked}
 use Rattle.lock.specs.declared.lock.Lock.{Lock}
 use Rattle.lock.proofs.Lives.{always-lists, only-leaves-out, same-below}
@@ -18,7 +15,6 @@ use Rattle.allowance.specs.declared.allowance.Allowance.{Allowance}
 use Rattle.allowance.proofs.Lives.{always-allows}
 use Rattle.pile.specs.Life.{PileLived, PileStands}
 use Rattle.pile.specs.Life.PileLived.{made, sets, locks}
-use Rattle.pile.specs.Pile.{pileBook}
 
 -- both layers have lived, over one plan
 record Standing (plan : Image) (p : Allowance (Lock Image)) : Type 0 where

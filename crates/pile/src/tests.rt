@@ -1,6 +1,5 @@
 // The layers on the example plan: what they answer and refuse, and whole piles held against a list that is worked out plainly.
 use crate::over;
-use allowance::Allowance;
 use allowance::AllowanceBook;
 use allowance::AllowanceLockable;
 use allowance::SettingRefusal;
@@ -171,6 +170,15 @@ fn a_setting_replaces_another(rt: LibcRuntime) -> Result<(), Fail> {
     check_eq(pile.set(1, 0), Ok(2))?;
     check_eq(pile.lock_below(3), Ok(1))?;
     check_eq(pile.rules(), 2)
+}
+
+#[test]
+fn key_3_locked(rt: LibcRuntime) -> Result<(), Fail> {
+    let mut pile = over(rt.alloc(), plan(&PLAN))?;
+    check_eq(pile.lock_below(3), Ok(1))?;
+    check_eq(pile.rules(), 3)?;
+    check_eq(pile.lock_below(3), Err(LockRefusal::AlreadyLocked))?;
+    check_eq(pile.rules(), 3)
 }
 
 #[test]

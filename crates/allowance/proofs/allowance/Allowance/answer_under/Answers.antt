@@ -1,4 +1,4 @@
-use mathlib.Core.Path.{_≡_, ap, sym, _∙_}
+use mathlib.Core.Path.{ap, sym, _∙_}
 use Prim.Native.Nat.{ℕ, _≤_}
 use native.Mathlib.Omega.{arith}
 use Rattle.std.specs.declared.option.Option.{Option}
@@ -6,7 +6,7 @@ use Rattle.std.specs.declared.option.Option.the-variants.{Some, None}
 use Rattle.std.specs.shelf.Maps.{nth}
 use Rattle.rulebook.specs.Book.{Rule, answerIn}
 use Rattle.allowance.specs.Levels.{left-no-more}
-use Rattle.allowance.specs.Moved.{answerWith, leftAfter}
+use Rattle.allowance.specs.Moved.{answerWith}
 use Rattle.allowance.proofs.Origins.{answer-told, answer-mode, mode-small}
 use Rattle.allowance.proofs.allowance.Allowance.answer_under.Needs as need
 

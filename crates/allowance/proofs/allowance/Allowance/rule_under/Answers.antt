@@ -1,9 +1,9 @@
-use mathlib.Core.Path.{_≡_, ap, sym, _∙_}
-use Prim.Native.Nat.{ℕ, _<_}
+use mathlib.Core.Path.{ap, sym, _∙_}
+use Prim.Native.Nat.{ℕ}
 use Rattle.std.specs.declared.option.Option.the-variants.{Some}
 use Rattle.std.specs.shelf.Maps.{nth}
 use Rattle.rulebook.specs.Book.{headIn}
-use Rattle.allowance.specs.Moved.{headWith, modeWith}
+use Rattle.allowance.specs.Moved.{headWith}
 use Rattle.allowance.proofs.Origins.{head-told, rule-mode, mode-small}
 use Rattle.allowance.proofs.allowance.Allowance.rule_under.Needs as need
 
