@@ -1,5 +1,5 @@
 -- The laws of an allowance.
-use Rattle.std.proofs.Common.{◌≡◌, ℕ, ◌+◌, ◌-◌, ◌*◌, ◌≤◌, Bool, true, false, cond, not, eqb, leb, List, [], ◌∷◌, map, length, is_some, Some, None, filter, sym, refl, ap, ◌∙◌, subst, suc-mul, mul-le-mul_left, add-one, arith}
+use Rattle.std.proofs.Common.{◌≡◌, ℕ, ◌+◌, ◌*◌, ◌≤◌, Bool, true, false, cond, not, eqb, leb, List, [], ◌∷◌, map, length, is_some, Some, None, filter, sym, refl, ap, ◌∙◌, subst, suc-mul, mul-le-mul_left, add-one, arith}
 use Rattle.std.specs.List.{range_with_len}
 use Rattle.std.proofs.lemmas.List.Filters.{length-filter_both}
 use Rattle.std.proofs.lemmas.Bool.{cond-true, le-leb}

@@ -1,4 +1,6 @@
 // An allowance over any rule book, itself a rule book: the book below with one key counted down.
+#![tactic(auto)]
+
 mod allowance;
 mod laws;
 mod refusal;

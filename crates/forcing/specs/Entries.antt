@@ -1,5 +1,5 @@
 -- Entries, tables of entries, and the lists of screens that a state accepts by a table.
-use Rattle.std.specs.Prelude.{◌≡◌, ℕ, ◌^◌, ◌<◌, ◌≤◌, Bool, false, cond, List, [], ◌∷◌, ◌++◌, map, ◌==◌}
+use Rattle.std.specs.Prelude.{ℕ, ◌^◌, ◌<◌, ◌≤◌, Bool, false, cond, List, [], ◌∷◌, ◌++◌, map, ◌==◌}
 use Rattle.states.specs.Sets.{Member}
 use Rattle.states.specs.Lists.{In}
 use Rattle.forcing.specs.declared.entry.Entry.{Entry}

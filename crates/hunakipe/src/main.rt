@@ -1,4 +1,6 @@
 // Reads a plan from standard input and writes its listing, or why and where it was refused, to standard output.
+#![tactic(auto)]
+
 use input::MOST_WORDS;
 use std::io::Read;
 

@@ -1,4 +1,6 @@
 // Plan images: the layout of their words, the check of a plan, and a rule book that reads a checked plan in place.
+#![tactic(auto)]
+
 mod format;
 mod image;
 mod layout;

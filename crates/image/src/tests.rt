@@ -227,14 +227,14 @@ fn questions(rt: HostRuntime) {
 fn the_jobs_follow_the_image(rt: HostRuntime) {
     let words = [0x1000_0302, 5, 6];
     let (image, jobs) = split(&words);
-    assert_eq!(rt; image, &[0x1000_0302]);
-    assert_eq!(rt; jobs, &[5, 6]);
+    assert_eq!(rt; image, [0x1000_0302].as_slice());
+    assert_eq!(rt; jobs, [5, 6].as_slice());
 }
 
 #[test]
 fn a_short_image_leaves_no_jobs(rt: HostRuntime) {
     let words = [0x1001_0302, 5];
     let (image, jobs) = split(&words);
-    assert_eq!(rt; image, &[0x1001_0302, 5]);
+    assert_eq!(rt; image, [0x1001_0302, 5].as_slice());
     assert!(rt; jobs.is_empty());
 }

@@ -1,4 +1,6 @@
 // From the bytes of an input to its words.
+#![tactic(auto)]
+
 ghost use Rattle.std.specs.Prelude.{◌≡◌, ◌+◌, ◌*◌, ◌<◌, length, IfOk};
 ghost use Rattle.input.specs.Words.{word_at, words_of};
 
@@ -36,7 +38,7 @@ mod tests {
     #[test]
     fn a_part_word_is_dropped(rt: HostRuntime) -> Result<(), Fail> {
         let read = words(rt.alloc(), &[0x02, 0x03, 0x04, 0x10, 0x07])?;
-        assert_eq!(rt; read.as_slice(), &[0x1004_0302]);
+        assert_eq!(rt; read.as_slice(), [0x1004_0302].as_slice());
         Ok(())
     }
 

@@ -1,4 +1,6 @@
 // The text that shows a plan to a person: the listing of any rule book, and the whole text for an input.
+#![tactic(auto)]
+
 ghost use Rattle.std.specs.Prelude.{◌≡◌, ◌++◌, IfOk, Some, string_bytes, OnOk};
 ghost use Rattle.std.specs.List.{slice_get};
 ghost use Rattle.listing.specs.Pieces.{answers_in, line_in};
@@ -13,18 +15,16 @@ pub use whole::show;
 
 // The text of a book: a first line, then a line for each rule.
 pub fn list<B: RuleBook>(heap: Global, book: &B) -> Result<String, AllocError>
-    ensures { IfOk result (λ t. string_bytes t ≡ listed (meaning book.now)) }
+    ensures { IfOk result (λ t. string_bytes t ≡ listed (B.meaning book.now)) }
 {
     let mut text = first_line(heap, book)?;
-    match write_rules(&mut text, book) {
-        Ok(()) => Ok(text),
-        Err(fmt::Error) => Err(AllocError),
-    }
+    write_rules(&mut text, book)?;
+    Ok(text)
 }
 
 // The line that says how many modes, screens and rules a book has.
 fn first_line<B: RuleBook>(heap: Global, book: &B) -> Result<String, AllocError>
-    ensures { IfOk result (λ t. string_bytes t ≡ first_line (meaning book.now)) }
+    ensures { IfOk result (λ t. string_bytes t ≡ first_line (B.meaning book.now)) }
 {
     let modes = book.modes();
     let screens = book.screens();
@@ -33,8 +33,8 @@ fn first_line<B: RuleBook>(heap: Global, book: &B) -> Result<String, AllocError>
 }
 
 // Adds a line for each rule.
-fn write_rules<B: RuleBook>(text: &mut String, book: &B) -> fmt::Result
-    ensures { OnOk result (string_bytes text.new ≡ string_bytes text.old ++ rule_lines 0 (meaning book.now).rules) }
+fn write_rules<B: RuleBook>(text: &mut String, book: &B) -> Result<(), AllocError>
+    ensures { OnOk result (string_bytes text.new ≡ string_bytes text.old ++ rule_lines 0 (B.meaning book.now).rules) }
 {
     for k in 0..book.rules() {
         write_rule(text, book, k)?;
@@ -43,8 +43,8 @@ fn write_rules<B: RuleBook>(text: &mut String, book: &B) -> fmt::Result
 }
 
 // Adds the line of rule `k`.
-fn write_rule<B: RuleBook>(text: &mut String, book: &B, k: usize) -> fmt::Result
-    ensures { OnOk result (string_bytes text.new ≡ string_bytes text.old ++ line_in k (slice_get (meaning book.now).rules k)) }
+fn write_rule<B: RuleBook>(text: &mut String, book: &B, k: usize) -> Result<(), AllocError>
+    ensures { OnOk result (string_bytes text.new ≡ string_bytes text.old ++ line_in k (slice_get (B.meaning book.now).rules k)) }
 {
     let Some(head) = book.rule(k) else {
         return Ok(());
@@ -59,8 +59,8 @@ fn write_rule<B: RuleBook>(text: &mut String, book: &B, k: usize) -> fmt::Result
 }
 
 // Adds the answers of rule `k`, each after one space.
-fn write_answers<B: RuleBook>(text: &mut String, book: &B, k: usize) -> fmt::Result
-    ensures { OnOk result (string_bytes text.new ≡ string_bytes text.old ++ answers_text (answers_in (slice_get (meaning book.now).rules k))) }
+fn write_answers<B: RuleBook>(text: &mut String, book: &B, k: usize) -> Result<(), AllocError>
+    ensures { OnOk result (string_bytes text.new ≡ string_bytes text.old ++ answers_text (answers_in (slice_get (B.meaning book.now).rules k))) }
 {
     let mut j = 0;
     while let Some(answer) = book.answer(k, j) {

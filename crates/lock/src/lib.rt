@@ -1,5 +1,7 @@
 // A lock over any rule book, itself a rule book: the book below without the rules of locked keys.
 // Beside it the places that a layer keeps of the rules below, and the trait of books in which a key can be locked.
+#![tactic(auto)]
+
 mod keys;
 mod laws;
 mod lock;

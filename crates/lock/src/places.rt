@@ -19,9 +19,9 @@ pub struct Places {
 impl Places {
     // The places of the rules of `book` whose key is not among `keys`.
     pub fn new<B: RuleBook>(heap: Global, book: &B, keys: &[Key]) -> Result<Places, AllocError>
-        ensures items { IfOk result (λ s. s.list.items ≡ places_of (free keys.now) (meaning book.now).rules) }
-        ensures lists { IfOk result (λ s. picked s.list.items (meaning book.now) ≡ locked keys.now (meaning book.now)) }
-        ensures whole { IfOk result (λ s. keys.now ≡ [] → picked s.list.items (meaning book.now) ≡ meaning book.now) }
+        ensures items { IfOk result (λ s. s.list.items ≡ places_of (free keys.now) (B.meaning book.now).rules) }
+        ensures lists { IfOk result (λ s. picked s.list.items (B.meaning book.now) ≡ locked keys.now (B.meaning book.now)) }
+        ensures whole { IfOk result (λ s. keys.now ≡ [] → picked s.list.items (B.meaning book.now) ≡ B.meaning book.now) }
     {
         let mut list = Vec::with_capacity(heap, 65_535)?;
         fill(&mut list, book, keys);
@@ -30,8 +30,8 @@ impl Places {
 
     // Takes the places of the rules of `book` whose key is not among `keys` instead.
     pub fn refill<B: RuleBook>(&mut self, book: &B, keys: &[Key])
-        ensures items { self.new.list.items ≡ places_of (free keys.now) (meaning book.now).rules }
-        ensures lists { picked self.new.list.items (meaning book.now) ≡ locked keys.now (meaning book.now) }
+        ensures items { self.new.list.items ≡ places_of (free keys.now) (B.meaning book.now).rules }
+        ensures lists { picked self.new.list.items (B.meaning book.now) ≡ locked keys.now (B.meaning book.now) }
     {
         fill(&mut self.list, book, keys);
     }
@@ -46,7 +46,7 @@ impl Places {
 
     // How many rules of `book` these places pick.
     pub fn count<B: RuleBook>(&self, book: &B) -> usize
-        ensures { result ≡ length (picks self.now.list.items (meaning book.now).rules) }
+        ensures { result ≡ length (picks self.now.list.items (B.meaning book.now).rules) }
     {
         places_below(&self.list, book.rules())
     }
@@ -76,9 +76,9 @@ fn places_below(list: &Vec<usize>, rules: usize) -> usize
 // Fills `list` with the places of the rules of `book` whose key is not among `keys`, in their order.
 fn fill<B: RuleBook>(list: &mut Vec<usize>, book: &B, keys: &[Key])
     requires { 65535 ≤ vec_capacity list.old }
-    ensures items { list.new.items ≡ places_of (free keys.now) (meaning book.now).rules }
-    ensures lists { picked list.new.items (meaning book.now) ≡ locked keys.now (meaning book.now) }
-    ensures whole { keys.now ≡ [] → picked list.new.items (meaning book.now) ≡ meaning book.now }
+    ensures items { list.new.items ≡ places_of (free keys.now) (B.meaning book.now).rules }
+    ensures lists { picked list.new.items (B.meaning book.now) ≡ locked keys.now (B.meaning book.now) }
+    ensures whole { keys.now ≡ [] → picked list.new.items (B.meaning book.now) ≡ B.meaning book.now }
     ensures rises { rises_from 0 list.new.items ≡ true }
     ensures capacity { vec_capacity list.new ≡ vec_capacity list.old }
 {
@@ -92,7 +92,7 @@ fn fill<B: RuleBook>(list: &mut Vec<usize>, book: &B, keys: &[Key])
 
 // Whether there is a rule at this place and its key is not among `keys`.
 fn is_free<B: RuleBook>(book: &B, keys: &[Key], place: usize) -> bool
-    ensures { result ≡ free_in keys.now (rule_at (meaning book.now) place) }
+    ensures { result ≡ free_in keys.now (rule_at (B.meaning book.now) place) }
 {
     match book.rule(place) {
         Some(head) => first_place(keys, &head.key).is_none(),

@@ -1,4 +1,6 @@
 // The pile of books that the program stands on: an allowance over a lock over the image of a plan.
+#![tactic(auto)]
+
 ghost use Rattle.std.specs.Prelude.{◌≡◌, IfOk};
 ghost use Rattle.image.specs.Held.{book_in};
 ghost use Rattle.pile.specs.Life.{PileMade, PileStands};

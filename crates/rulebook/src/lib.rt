@@ -1,4 +1,6 @@
 // What a rule book is: the forms in which a rule and an answer are told, the trait that every book implements, and the one search for the first record that agrees with a given one.
+#![tactic(auto)]
+
 mod book;
 mod search;
 mod told;

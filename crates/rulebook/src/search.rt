@@ -25,15 +25,15 @@ impl Same for Key {
 
 // The lowest place of `records`, counted from 0, whose record agrees with `wanted`, or none where none agrees.
 pub fn first_place<T: Same>(records: &[T], wanted: &T) -> Option<usize>
-    ensures value { result ≡ first_of (λ x. same x wanted.now) records.now }
-    ensures first { First (λ x. same x wanted.now) records.now result }
+    ensures value { result ≡ first_of (λ x. T.same x wanted.now) records.now }
+    ensures first { First (λ x. T.same x wanted.now) records.now result }
 {
     scan(records, wanted)
 }
 
 // The same by the relation alone, of which there is one answer.
 fn scan<T: Same>(records: &[T], wanted: &T) -> Option<usize>
-    ensures { First (λ x. same x wanted.now) records.now result }
+    ensures { First (λ x. T.same x wanted.now) records.now result }
 {
     for place in 0..records.len() {
         if records[place].agrees(wanted) {

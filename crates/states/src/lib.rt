@@ -1,4 +1,6 @@
 // Sets of states as masks of 64 bits.
+#![tactic(auto)]
+
 ghost use Rattle.std.specs.Prelude.{◌≡◌};
 
 // A state's number: 0 to 63.

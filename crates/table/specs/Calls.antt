@@ -1,5 +1,5 @@
 -- What the calls on a table answer, and what the table holds then. P and G are the modes and the screens of the book.
-use Rattle.std.specs.Prelude.{◌≡◌, ℕ, ◌+◌, Bool, true, false, cond, not, leb, ◌↔◌, List, [], ◌∷◌, ◌++◌, length, is_some, is_ok, Some, None, Ok, Err, Option, Result, bit_or, nat_le, nat_lt, refl}
+use Rattle.std.specs.Prelude.{◌≡◌, ℕ, ◌+◌, Bool, true, cond, leb, ◌↔◌, List, [], ◌∷◌, ◌++◌, length, is_some, is_ok, Some, None, Ok, Err, Option, Result, bit_or, nat_le, nat_lt, refl}
 use Rattle.rulebook.specs.Search.{first_of}
 use Rattle.states.specs.Sets.{only, holds_below, count_below}
 use Rattle.forcing.specs.Entries.{Accepts, entry, same_entry}

@@ -50,8 +50,8 @@ impl<B: RuleBook> RuleBook for Allowance<B> {
 impl<B: RuleBook> Allowance<B> {
     // The setting that counts: none before any setting.
     fn in_force(&self) -> Option<Setting>
-        ensures value { result ≡ in_force self.now.setting (meaning self.now.below) }
-        ensures bound { IfSome result (λ s. Bounded s (meaning self.now.below)) }
+        ensures value { result ≡ in_force self.now.setting (B.meaning self.now.below) }
+        ensures bound { IfSome result (λ s. Bounded s (B.meaning self.now.below)) }
     {
         let setting = self.setting?;
         if setting_fits(&self.below, setting.most) {
@@ -64,7 +64,7 @@ impl<B: RuleBook> Allowance<B> {
 
 // Whether a key can be counted so many times over this book.
 pub(crate) fn setting_fits<B: RuleBook>(book: &B, most: u8) -> bool
-    ensures { result ≡ fits most (meaning book.now) }
+    ensures { result ≡ fits most (B.meaning book.now) }
 {
     let levels = most as usize + 1;
     book.modes() as usize * levels <= 60 && levels * book.rules() <= 65_535

@@ -16,9 +16,9 @@ impl<B: RuleBook> Allowance<B> {
     // An allowance over this book, not set: it lists what the book lists. Where memory is wanting the book comes back.
     // Whatever is called then, an allowance means the book below it under its setting.
     pub fn new(heap: Global, below: B) -> Result<Allowance<B>, AllocFailed<B>>
-        ensures made { IfOk result (λ s. Made meaning below s) }
+        ensures made { IfOk result (λ s. Made B.meaning below s) }
         ensures refused { IfErr result (λ y. y.value ≡ below) }
-        ensures lived { AlwaysAllows meaning }
+        ensures lived { AlwaysAllows B.meaning }
     {
         always_allows(&below);
         let Ok(first) = Places::new(heap, &below, &[]) else {
@@ -33,7 +33,7 @@ impl<B: RuleBook> Allowance<B> {
 
     // Lets the key be pressed `most` times, in place of an earlier setting, and answers how many modes there are then. A refusal changes nothing.
     pub fn set(&mut self, key: Key, most: u8) -> Result<u8, SettingRefusal>
-        ensures { Sets meaning self.old key most result self.new }
+        ensures { Sets B.meaning self.old key most result self.new }
     {
         let modes = admit(&self.below, key, most)?;
         self.setting = Some(Setting { key, most });
@@ -44,7 +44,7 @@ impl<B: RuleBook> Allowance<B> {
 
 // What setting a key and a number of times answers over this book.
 fn admit<B: RuleBook>(book: &B, key: Key, most: u8) -> Result<u8, SettingRefusal>
-    ensures { result ≡ set_answer (meaning book.now) key most }
+    ensures { result ≡ set_answer (B.meaning book.now) key most }
 {
     if key > 63 {
         return Err(SettingRefusal::NoSuchKey);
@@ -58,7 +58,7 @@ fn admit<B: RuleBook>(book: &B, key: Key, most: u8) -> Result<u8, SettingRefusal
 impl<B: Lockable> Allowance<B> {
     // Locks a key in the lock below, and answers how many are locked there then. The setting stays, and the rules follow the book below. A refusal changes nothing.
     pub fn lock_below(&mut self, key: Key) -> Result<usize, LockRefusal>
-        ensures below { Locks keys under B.RuleBook.meaning self.old.below key result self.new.below }
+        ensures below { Locks B.keys B.under B.RuleBook.meaning self.old.below key result self.new.below }
         ensures follows { Follows B.RuleBook.meaning self.old result self.new }
     {
         let locked = self.below.lock(key)?;
@@ -81,5 +81,5 @@ impl<B: Lockable> Lockable for Allowance<B> {
 
 // What an allowance over such a book means in its whole life.
 fn always_allows<B: RuleBook>(_below: &B)
-    ensures { AlwaysAllows meaning }
+    ensures { AlwaysAllows B.meaning }
 {}

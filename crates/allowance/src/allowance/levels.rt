@@ -11,16 +11,16 @@ use rulebook::{Answer, RuleBook, RuleHead};
 impl<B: RuleBook> Allowance<B> {
     // How many rules there are.
     pub(super) fn rules_under(&self, setting: Setting) -> usize
-        requires { Bounded setting (meaning self.now.below) }
-        ensures { result ≡ length (allowed_at self.now.first.list.items setting.key setting.most (meaning self.now.below)).rules }
+        requires { Bounded setting (B.meaning self.now.below) }
+        ensures { result ≡ length (allowed_at self.now.first.list.items setting.key setting.most (B.meaning self.now.below)).rules }
     {
         self.first.count(&self.below) + setting.most as usize * self.below.rules()
     }
 
     // Rule `k`.
     pub(super) fn rule_under(&self, setting: Setting, k: usize) -> Option<RuleHead>
-        requires { Bounded setting (meaning self.now.below) }
-        ensures { result ≡ rule_at (allowed_at self.now.first.list.items setting.key setting.most (meaning self.now.below)) k }
+        requires { Bounded setting (B.meaning self.now.below) }
+        ensures { result ≡ rule_at (allowed_at self.now.first.list.items setting.key setting.most (B.meaning self.now.below)) k }
     {
         let origin = self.find(setting, k)?;
         let head = self.below.rule(origin.place)?;
@@ -29,8 +29,8 @@ impl<B: RuleBook> Allowance<B> {
 
     // Answer `j` of rule `k`.
     pub(super) fn answer_under(&self, setting: Setting, k: usize, j: usize) -> Option<Answer>
-        requires { Bounded setting (meaning self.now.below) }
-        ensures { result ≡ answer_at (allowed_at self.now.first.list.items setting.key setting.most (meaning self.now.below)) k j }
+        requires { Bounded setting (B.meaning self.now.below) }
+        ensures { result ≡ answer_at (allowed_at self.now.first.list.items setting.key setting.most (B.meaning self.now.below)) k j }
     {
         let origin = self.find(setting, k)?;
         let head = self.below.rule(origin.place)?;
@@ -41,7 +41,7 @@ impl<B: RuleBook> Allowance<B> {
 
     // Where rule `k` comes from.
     fn find(&self, setting: Setting, k: usize) -> Option<Origin>
-        ensures { Comes self.now.first.list.items setting (meaning self.now.below) k result }
+        ensures { Comes self.now.first.list.items setting (B.meaning self.now.below) k result }
     {
         let first = self.first.count(&self.below);
         if k < first {

@@ -17,10 +17,10 @@ impl<B: RuleBook> Lock<B> {
     // A lock over this book, with no key locked: it lists what the book lists. Where memory is wanting the book comes back.
     // Whatever is called then, a lock means the book below it without the rules of its locked keys, and locking one more leaves out rules and changes nothing else.
     pub fn new(heap: Global, below: B) -> Result<Lock<B>, AllocFailed<B>>
-        ensures made { IfOk result (λ s. Made meaning below s) }
+        ensures made { IfOk result (λ s. Made B.meaning below s) }
         ensures refused { IfErr result (λ y. y.value ≡ below) }
-        ensures lived { AlwaysLists meaning }
-        ensures narrows { OnlyLeavesOut meaning }
+        ensures lived { AlwaysLists B.meaning }
+        ensures narrows { OnlyLeavesOut B.meaning }
     {
         lock_lives(&below);
         let Ok(keys) = Keys::new(heap) else {
@@ -40,7 +40,7 @@ impl<B: RuleBook> Lock<B> {
     fn list_anew(&mut self)
         ensures below { self.new.below ≡ self.old.below }
         ensures keys { self.new.keys ≡ self.old.keys }
-        ensures meaning { lock_book meaning self.new ≡ locked (keys_of self.old) (meaning self.old.below) }
+        ensures meaning { lock_book B.meaning self.new ≡ locked (keys_of self.old) (B.meaning self.old.below) }
     {
         self.places.refill(&self.below, self.keys.as_slice());
     }
@@ -61,7 +61,7 @@ impl<B: RuleBook> Lockable for Lock<B> {
 impl<B: Lockable> Lock<B> {
     // Locks a key in the lock below this one, and answers how many are locked there then. A refusal changes nothing.
     pub fn lock_below(&mut self, key: Key) -> Result<usize, LockRefusal>
-        ensures below { Locks keys under B.RuleBook.meaning self.old.below key result self.new.below }
+        ensures below { Locks B.keys B.under B.RuleBook.meaning self.old.below key result self.new.below }
         ensures follows { Follows B.RuleBook.meaning self.old result self.new }
     {
         let locked = self.below.lock(key)?;
@@ -72,6 +72,6 @@ impl<B: Lockable> Lock<B> {
 
 // What a lock over such a book means in its whole life, and what a key locked in it then does.
 fn lock_lives<B: RuleBook>(_below: &B)
-    ensures lived { AlwaysLists meaning }
-    ensures narrows { OnlyLeavesOut meaning }
+    ensures lived { AlwaysLists B.meaning }
+    ensures narrows { OnlyLeavesOut B.meaning }
 {}

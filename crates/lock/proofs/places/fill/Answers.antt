@@ -4,7 +4,7 @@ use Rattle.lock.specs.Places.{places_from, rises_from}
 use Rattle.lock.proofs.Listing.{picked_locked, locked_none}
 use Rattle.lock.proofs.Standing.{gathered_more, gathered_same, gathered_all, places_rise}
 use Rattle.lock.proofs.places.fill.Goals as goal
-use Rattle.lock.proofs.places.fill.Goals.{then-is-free, else-is-free}
+use Rattle.lock.proofs.places.fill.Goals.{then-is_free, else-is_free}
 
 pub loop-place-preserved : goal.loop-place-preserved
 loop-place-preserved g c =
@@ -14,14 +14,14 @@ loop-place-preserved g c =
     let before : List ℕ = vec_items c.loop-place.list in
     let whole : List ℕ = places_from (free keys) 0 rules in
     let later : List ℕ = places_from (free keys) (i + 1) (drop (i + 1) rules) in
-    elim c.if-is-free.branch [
-      | then-is-free w ↦ (
-        ap (λ v. vec_items v ++ later) w.list-is ∙ ap (λ xs. xs ++ later) w.push-reserved.ensures.items ∙ gathered_more keys rules i before whole (sym w.if-is-free.ensures) c.loop-place.invariant.0,
-        omega (arith, ap vec_len w.list-is, w.push-reserved.ensures.len),
-        ap vec_capacity w.list-is ∙ w.push-reserved.ensures.capacity ∙ c.loop-place.invariant.2,
+    elim c.if-is_free.branch [
+      | then-is_free w ↦ (
+        ap (λ v. vec_items v ++ later) w.list-is ∙ ap (λ xs. xs ++ later) w.push_reserved.ensures.items ∙ gathered_more keys rules i before whole (sym w.if-is_free.ensures) c.loop-place.invariant.0,
+        omega (arith, ap vec_len w.list-is, w.push_reserved.ensures.len),
+        ap vec_capacity w.list-is ∙ w.push_reserved.ensures.capacity ∙ c.loop-place.invariant.2,
       )
-      | else-is-free w ↦ (
-        ap (λ v. vec_items v ++ later) w.list-is ∙ gathered_same keys rules i before whole (sym w.if-is-free.ensures) c.loop-place.invariant.0,
+      | else-is_free w ↦ (
+        ap (λ v. vec_items v ++ later) w.list-is ∙ gathered_same keys rules i before whole (sym w.if-is_free.ensures) c.loop-place.invariant.0,
         omega (arith, ap vec_len w.list-is),
         ap vec_capacity w.list-is ∙ c.loop-place.invariant.2,
       )

@@ -4,8 +4,8 @@ use Rattle.allowance.specs.Levels.{length-leveled}
 use Rattle.lock.specs.Places.{picks}
 use Rattle.allowance.proofs.allowance.Allowance.rules_under.Goals as goal
 
-pub overflow-add-result : goal.overflow-add-result
-overflow-add-result g c =
+pub overflow_add-result : goal.overflow_add-result
+overflow_add-result g c =
     let rules = (g.B.RuleBook.meaning c.args.self.now.below).rules in
     let places = c.args.self.now.first in
     let A : ℕ = c.args.setting.most in

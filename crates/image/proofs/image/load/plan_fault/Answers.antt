@@ -5,13 +5,13 @@ use Rattle.image.proofs.image.load.plan_fault.Goals as goal
 
 pub loop-k-preserved : goal.loop-k-preserved
 loop-k-preserved c =
-    first_some_more (rule_fault c.args.words.now) c.loop-k.k c.args.rules c.rule-fault.result
-    c.loop-k-test.true c.rule-fault.ensures c.in-default.is c.loop-k.invariant
+    first_some_more (rule_fault c.args.words.now) c.loop-k.k c.args.rules c.rule_fault.result
+    c.loop-k-test.true c.rule_fault.ensures c.in_default.is c.loop-k.invariant
 
 pub returns-in-Some : goal.returns-in-Some
 returns-in-Some c =
-    first_some_found (rule_fault c.args.words.now) c.loop-k.k c.args.rules c.rule-fault.result c.in-Some.fault
-    c.loop-k-test.true c.rule-fault.ensures c.in-Some.is c.loop-k.invariant
+    first_some_found (rule_fault c.args.words.now) c.loop-k.k c.args.rules c.rule_fault.result c.in-Some.fault
+    c.loop-k-test.true c.rule_fault.ensures c.in-Some.is c.loop-k.invariant
     ∙ ap (first_some (rule_fault c.args.words.now) 0) c.requires.rules
 
 pub returns : goal.returns
