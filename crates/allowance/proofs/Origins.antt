@@ -1,6 +1,6 @@
 -- Where the rules of an allowance stand in its list, and what is told of them.
 use Rattle.std.proofs.Common.{◌≡◌, ℕ, zero, suc, ◌+◌, ◌-◌, ◌*◌, ◌/◌, ◌%◌, ◌<◌, ◌≤◌, List, [], ◌∷◌, ◌++◌, map, length, Some, None, Option, sym, refl, ap, ◌∙◌, mul-le-mul_right, mod-lt, suc-mul, div-add-mod', zero-mul, arith}
-use Rattle.std.specs.List.{range_with_len, flat_map, AllByRecursion as All, slice_get}
+use Rattle.std.specs.List.{range_with_len, flat_map, AllByRecursion, slice_get}
 use Rattle.std.specs.Option.{option_map}
 use Rattle.std.proofs.lemmas.List.{length-map}
 use Rattle.std.proofs.lemmas.Option.{slice_get_past}
@@ -106,17 +106,17 @@ none_there x e = let z : ◌≡◌ {A = ℕ} 0 1 = cc in omega arith
 
 -- a rule that is told keeps to the bounds of the book
 module _ (P G : ℕ) where
-  pub rule_mode : (rules : List Rule) (k : ℕ) (h : RuleHead) → All (RuleFits P G) rules → Some h ≡ head_in (slice_get rules k) → h.mode < P
+  pub rule_mode : (rules : List Rule) (k : ℕ) (h : RuleHead) → AllByRecursion (RuleFits P G) rules → Some h ≡ head_in (slice_get rules k) → h.mode < P
   rule_mode [] k h fit e = absurd (none_there h e)
   rule_mode (r ∷ rules) zero h fit e = let same : h.mode ≡ r.mode = cc in omega (arith, fit.0.mode)
   rule_mode (r ∷ rules) (suc k) h fit e = rule_mode rules k h fit.1 e
 
-  pub answer_mode : (rules : List Rule) (k j : ℕ) (a : Answer) → All (RuleFits P G) rules → Some a ≡ answer_in (slice_get rules k) j → a.mode < P
+  pub answer_mode : (rules : List Rule) (k j : ℕ) (a : Answer) → AllByRecursion (RuleFits P G) rules → Some a ≡ answer_in (slice_get rules k) j → a.mode < P
   answer_mode [] k j a fit e = absurd (none_there a e)
   answer_mode (r ∷ rules) (suc k) j a fit e = answer_mode rules k j a fit.1 e
   answer_mode (r ∷ rules) zero j a fit e = told r.answers j fit.0.answers e
     where
-      told : (answers : List Answer) (j : ℕ) → All (AnswerFits P G) answers → Some a ≡ slice_get answers j → a.mode < P
+      told : (answers : List Answer) (j : ℕ) → AllByRecursion (AnswerFits P G) answers → Some a ≡ slice_get answers j → a.mode < P
       told [] j all e = absurd (none_there a e)
       told (b ∷ bs) zero all e = let same : a.mode ≡ b.mode = cc in omega (arith, all.0.mode)
       told (b ∷ bs) (suc j) all e = told bs j all.1 e

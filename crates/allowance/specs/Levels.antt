@@ -2,7 +2,7 @@
 -- A rule book gives that proof with its meaning, so it stands here and not among the proofs.
 use Rattle.std.specs.Prelude.{◌≡◌, ℕ, zero, suc, ◌+◌, ◌-◌, ◌*◌, ◌<◌, ◌≤◌, Bool, true, false, cond, List, map, length, Some, None, Option, ◌==◌, nat_le, refl}
 use Rattle.std.proofs.Common.{sym, ap, ◌∙◌, arith, add-one, mul-add, mul-one, mul-le-mul_left, suc-mul, zero-mul}
-use Rattle.std.specs.List.{range_with_len, flat_map, AllByRecursion as All}
+use Rattle.std.specs.List.{range_with_len, flat_map, AllByRecursion}
 use Rattle.std.proofs.ByRecursion.{All-append, All-map, All-weaker}
 use Rattle.std.proofs.lemmas.List.{length-append, length-map}
 use Rattle.std.proofs.lemmas.Bool.{leb-true}
@@ -50,13 +50,13 @@ module _ (P G A : ℕ) where
         answers = All-map (AnswerFits (P * (A + 1)) G) (answer_with P left) r.answers (All-weaker (AnswerFits P G) (λ a. AnswerFits (P * (A + 1)) G (answer_with P left a)) (answer_fits left fewer) r.answers fit.answers);
       }
 
-  level_fits : (counted l : ℕ) → l ≤ A → (rules : List Rule) → All (RuleFits P G) rules → All (RuleFits (P * (A + 1)) G) (map (rule_with counted P l) rules)
+  level_fits : (counted l : ℕ) → l ≤ A → (rules : List Rule) → AllByRecursion (RuleFits P G) rules → AllByRecursion (RuleFits (P * (A + 1)) G) (map (rule_with counted P l) rules)
   level_fits counted l k rules fit =
       All-map (RuleFits (P * (A + 1)) G) (rule_with counted P l) rules
       (All-weaker (RuleFits P G) (λ r. RuleFits (P * (A + 1)) G (rule_with counted P l r)) (rule_fits counted l k) rules fit)
 
 module _ {X : Type 0} (f : ℕ → List X) where
-  all_levels : (Q : X → Type 0) (i n : ℕ) → ((l : ℕ) → l < i + n → All Q (f l)) → All Q (flat_map f (range_with_len i n))
+  all_levels : (Q : X → Type 0) (i n : ℕ) → ((l : ℕ) → l < i + n → AllByRecursion Q (f l)) → AllByRecursion Q (flat_map f (range_with_len i n))
   all_levels Q i zero h = tt
   all_levels Q i (suc n) h =
       All-append Q (f i) (flat_map f (range_with_len (i + 1) n)) (h i (omega arith)) (all_levels Q (i + 1) n (λ l k. h l (omega arith)))

@@ -1,7 +1,7 @@
 -- From which stacks a goal can be forced, whatever the radio answers.
 -- A stack is a mode with a list of screens, top first. A goal says of each stack whether it is in it.
 use Rattle.std.specs.Prelude.{◌≡◌, ℕ, zero, suc, ◌⊎◌, List, [], ◌∷◌, Some}
-use Rattle.std.specs.List.{AllByRecursion as All, slice_get}
+use Rattle.std.specs.List.{AllByRecursion, slice_get}
 use Rattle.rulebook.specs.Book.{Book, Rule}
 use Rattle.rulebook.specs.declared.told.Answer.{Answer}
 use Rattle.rulebook.specs.declared.told.Screens.{Screens}
@@ -22,7 +22,7 @@ pub record Applies (b : Book) (k : ℕ) (r : Rule) (p a : ℕ) : Type 0 where
 -- Some rule applies to the stack, and each of its answers leads to a stack with the property. To an empty list no rule applies.
 abbrev pub Presses : Book → (ℕ → List ℕ → Type 0) → ℕ → List ℕ → Type 0
 Presses b Then p [] = ⊥
-Presses b Then p (a ∷ w) = (k : ℕ) × (r : Rule) × Applies b k r p a × All (λ (x : Answer). Then x.mode (onto x.screens w)) r.answers
+Presses b Then p (a ∷ w) = (k : ℕ) × (r : Rule) × Applies b k r p a × AllByRecursion (λ (x : Answer). Then x.mode (onto x.screens w)) r.answers
 
 -- The goal is forced from the stack within n presses: the stack is in the goal, or the goal is forced with a press less, or some rule applies all of whose answers lead to stacks from which it is forced with a press less.
 abbrev pub Forced : Book → (ℕ → List ℕ → Type 0) → ℕ → ℕ → List ℕ → Type 0

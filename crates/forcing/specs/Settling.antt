@@ -1,6 +1,6 @@
 -- Settling a table: the due entry of the lowest rule is entered, among those of that rule the one whose set goes first, until none is due.
 use Rattle.std.specs.Prelude.{◌≡◌, ℕ, ◌<◌, Bool, false, List, [], ◌∷◌, ◌++◌, length, Some, nat_lt}
-use Rattle.std.specs.List.{AllByRecursion as All, slice_get}
+use Rattle.std.specs.List.{AllByRecursion, slice_get}
 use Rattle.rulebook.specs.Book.{Book, Rule}
 use Rattle.forcing.specs.Entries.{entry, table_of}
 use Rattle.states.specs.Lists.{In, NoRepeats}
@@ -54,7 +54,7 @@ pub record TooWide (b : Book) (given : List Entry) : Type 0 where
   pub listed : slice_get b.rules number ≡ Some rule
   pub sets : List ℕ
   pub distinct : NoRepeats sets
-  pub partial : All (PartialUnion (table_of given earned) rule) sets
+  pub partial : AllByRecursion (PartialUnion (table_of given earned) rule) sets
   pub many : 65536 < length sets
 
 -- Closed under the rules: whatever unites a reach for each answer of a rule is in the table at the rule's mode and screen.

@@ -1,6 +1,6 @@
 -- Accepted words are those that are written for the book they say.
 use Rattle.std.proofs.Common.{◌≡◌, ℕ, zero, suc, ◌+◌, ◌*◌, ◌/◌, ◌%◌, ◌<◌, ◌≤◌, true, ltb, List, length, get_or, sym, refl, ap, ◌∙◌, ⊎_elim, arith}
-use Rattle.std.specs.List.{flat_map, AllByRecursion as All}
+use Rattle.std.specs.List.{flat_map, AllByRecursion}
 use Rattle.std.proofs.lemmas.List.{ext_get_or}
 use Rattle.std.proofs.lemmas.List.FromFn.{length-map-range_with_len, get_or-map-range_with_len}
 use Rattle.std.proofs.lemmas.Bool.{cases_lt, eqb-true}
@@ -67,7 +67,7 @@ module _ (ws : List ℕ) (ok : accepted ws ≡ true) where
     nine_rewritten (suc j) m =
         let place : answer_place k j ≡ suc (9 * k + suc j) = omega arith in answers_rewritten j (omega arith) ∙ ap (λ (n : ℕ). get_or ws n 0) place
 
-  nines : All (Nine rule_words) (decoded ws).rules
+  nines : AllByRecursion (Nine rule_words) (decoded ws).rules
   nines = rules_nine (decoded ws) (decoded_formed ws ok)
 
   length_rewritten : length (encoded (decoded ws)) ≡ length ws

@@ -1,6 +1,6 @@
 -- A written book is accepted and read back.
 use Rattle.std.proofs.Common.{◌≡◌, ℕ, zero, suc, ◌+◌, ◌-◌, ◌*◌, ◌<◌, ◌≤◌, Bool, true, cond, eqb, ltb, List, [], ◌∷◌, ◌++◌, map, length, get_or, replicate, Some, None, Ok, Option, sym, refl, ap, ◌∙◌, ⊎_elim, add-zero, zero-add, arith}
-use Rattle.std.specs.List.{range_with_len, flat_map, AllByRecursion as All}
+use Rattle.std.specs.List.{range_with_len, flat_map, AllByRecursion}
 use Rattle.std.proofs.lemmas.List.{length-append, length-map, length-replicate, get_or_append_left, get_or-append_right, get_or-append-add, get_or-replicate, get_or-map}
 use Rattle.std.proofs.ByRecursion.{All-get_or, All-weaker}
 use Rattle.std.proofs.lemmas.List.FromFn.{fill_by_all}
@@ -20,11 +20,11 @@ module _ {X : Type 0} (f : X → List ℕ) where
   abbrev pub Nine : X → Type 0
   Nine x = length (f x) ≡ 9
 
-  pub length-flat_map : (xs : List X) → All Nine xs → length (flat_map f xs) ≡ 9 * length xs
+  pub length-flat_map : (xs : List X) → AllByRecursion Nine xs → length (flat_map f xs) ≡ 9 * length xs
   length-flat_map [] h = refl
   length-flat_map (x ∷ xs) h = length-append (f x) (flat_map f xs) ∙ omega (arith, h.0, length-flat_map xs h.1)
 
-  pub get_or-flat_map : (xs : List X) (k i : ℕ) (d : X) → All Nine xs → k < length xs → i < 9 → get_or (flat_map f xs) (9 * k + i) 0 ≡ get_or (f (get_or xs k d)) i 0
+  pub get_or-flat_map : (xs : List X) (k i : ℕ) (d : X) → AllByRecursion Nine xs → k < length xs → i < 9 → get_or (flat_map f xs) (9 * k + i) 0 ≡ get_or (f (get_or xs k d)) i 0
   get_or-flat_map [] k i d h l m = absurd (omega arith)
   get_or-flat_map (x ∷ xs) zero i d h l m =
       let here : i < length (f x) = omega (arith, h.0) in
@@ -77,7 +77,7 @@ answer_lacking r j h l =
     ∙ get_or-replicate (8 - length r.answers) (j - length r.answers) 0 0 (omega arith)
 
 -- each rule of a well-formed book takes nine words
-pub rules_nine : (b : Book) → WellFormed b → All (Nine rule_words) b.rules
+pub rules_nine : (b : Book) → WellFormed b → AllByRecursion (Nine rule_words) b.rules
 rules_nine b formed =
     All-weaker (RuleFits b.modes b.screens) (Nine rule_words) (λ r fits. length-rule_words r fits.few) b.rules formed.rules
 
@@ -85,7 +85,7 @@ module _ (b : Book) (h : Holds 1024 b) where
   formed : WellFormed b
   formed = h.formed
 
-  nines : All (Nine rule_words) b.rules
+  nines : AllByRecursion (Nine rule_words) b.rules
   nines = rules_nine b formed
 
   rule : ℕ → Rule

@@ -5,7 +5,7 @@ use Rattle.std.proofs.Common.{sym, subst, ◌∙◌, zero-add}
 use Rattle.std.proofs.Math.Path.{ap}
 use native.Mathlib.Omega.{arith}
 use Rattle.std.proofs.Math.Nat.{add-zero}
-use Rattle.std.specs.List.{range_with_len, AllByRecursion as All}
+use Rattle.std.specs.List.{range_with_len, AllByRecursion}
 use Rattle.std.proofs.lemmas.Bool.{and_parts, ltb-true, leb-true, eqb-true, lt-ltb, le-ltb, cond-true, cond-false}
 use Rattle.std.proofs.lemmas.List.FromFn.{length-map-range_with_len}
 use Rattle.image.specs.declared.refusal.Refusal.{Refusal}
@@ -92,7 +92,7 @@ module _ (ws : List ℕ) where
       }
 
 -- what holds of f at each index holds of each element of the list made from f
-all_counting : {X : Type 0} (Q : X → Type 0) (f : ℕ → X) (a n : ℕ) → ((k : ℕ) → k < n → Q (f (a + k))) → All Q (map f (range_with_len a n))
+all_counting : {X : Type 0} (Q : X → Type 0) (f : ℕ → X) (a n : ℕ) → ((k : ℕ) → k < n → Q (f (a + k))) → AllByRecursion Q (map f (range_with_len a n))
 all_counting Q f a zero h = tt
 all_counting {X} Q f a (suc n) h = (
   rw add-zero at (h 0 (omega arith)),

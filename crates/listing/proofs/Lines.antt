@@ -1,6 +1,6 @@
 -- Where the rules and answers that a book tells stand in its lists, and what that says of the lines.
 use Rattle.std.proofs.Common.{◌≡◌, ℕ, zero, suc, ◌+◌, ◌<◌, ◌≤◌, List, [], ◌∷◌, ◌++◌, length, drop, Some, None, codes, decimal, Option, sym, refl, ap, ◌∙◌, add-one, arith}
-use Rattle.std.specs.List.{AllByRecursion as All, slice_get}
+use Rattle.std.specs.List.{AllByRecursion, slice_get}
 use Rattle.rulebook.specs.Book.{Book, Rule, RuleFits, WellFormed, head_of, head_in, answer_in, answer_at}
 use Rattle.rulebook.specs.declared.told.Answer.{Answer}
 use Rattle.rulebook.specs.declared.told.RuleHead.{RuleHead}
@@ -33,7 +33,7 @@ answer_in_lem None j = refl
 answer_in_lem (Some r) j = refl
 
 -- a rule has at most 8 answers
-few_answers : (P G : ℕ) (rules : List Rule) (k : ℕ) → All (RuleFits P G) rules → length (answers_in (slice_get rules k)) ≤ 8
+few_answers : (P G : ℕ) (rules : List Rule) (k : ℕ) → AllByRecursion (RuleFits P G) rules → length (answers_in (slice_get rules k)) ≤ 8
 few_answers P G [] k fit = omega arith
 few_answers P G (r ∷ rest) zero fit = fit.0.few
 few_answers P G (r ∷ rest) (suc k) fit = few_answers P G rest k fit.1

@@ -3,7 +3,7 @@
 use Rattle.std.specs.Prelude.{◌≡◌, ℕ, zero, suc, ◌+◌, ◌-◌, ◌≤◌, Bool, true, false, cond, List, [], ◌∷◌, length, nat_le, refl}
 use Rattle.std.proofs.Common.{arith}
 use Rattle.std.specs.Option.{option_to_list}
-use Rattle.std.specs.List.{AllByRecursion as All, slice_get}
+use Rattle.std.specs.List.{AllByRecursion, slice_get}
 use Rattle.std.proofs.ByRecursion.{All-append}
 use Rattle.std.proofs.lemmas.List.{length-append}
 use Rattle.std.proofs.lemmas.Bool.{leb-true, false≢true}
@@ -40,13 +40,13 @@ module _ {X : Type 0} where
       let rest = picks_few (p + 1) ps xs parts.1 in
       omega (arith, parts.0, one.0, one.1, rest, length-append (option_to_list (slice_get xs p)) (picks ps xs))
 
-  all_at : (P : X → Type 0) (xs : List X) (p : ℕ) → All P xs → All P (option_to_list (slice_get xs p))
+  all_at : (P : X → Type 0) (xs : List X) (p : ℕ) → AllByRecursion P xs → AllByRecursion P (option_to_list (slice_get xs p))
   all_at P [] p all = tt
   all_at P (x ∷ xs) zero all = (all.0, tt)
   all_at P (x ∷ xs) (suc p) all = all_at P xs p all.1
 
   -- what holds of each element holds of each that is picked
-  pub picks_all : (P : X → Type 0) (ps : List ℕ) (xs : List X) → All P xs → All P (picks ps xs)
+  pub picks_all : (P : X → Type 0) (ps : List ℕ) (xs : List X) → AllByRecursion P xs → AllByRecursion P (picks ps xs)
   picks_all P [] xs all = tt
   picks_all P (p ∷ ps) xs all = All-append P (option_to_list (slice_get xs p)) (picks ps xs) (all_at P xs p all) (picks_all P ps xs all)
 

@@ -1,6 +1,6 @@
 -- The meaning of a rule book, the bounds that it keeps, and what its questions are answered by.
 use Rattle.std.specs.Prelude.{◌≡◌, ℕ, ◌<◌, ◌≤◌, List, [], ◌∷◌, length, Some, None, Option, refl}
-use Rattle.std.specs.List.{AllByRecursion as All, slice_get}
+use Rattle.std.specs.List.{AllByRecursion, slice_get}
 use Rattle.rulebook.specs.declared.told.Answer.{Answer}
 use Rattle.rulebook.specs.declared.told.RuleHead.{RuleHead}
 use Rattle.rulebook.specs.declared.told.Screens.{Screens}
@@ -37,7 +37,7 @@ pub record RuleFits (P G : ℕ) (r : Rule) : Type 0 where
   pub screen : r.screen < G
   pub some : 1 ≤ length r.answers
   pub few : length r.answers ≤ 8
-  pub answers : All (AnswerFits P G) r.answers
+  pub answers : AllByRecursion (AnswerFits P G) r.answers
 
 -- A book is well formed: 1 to 60 modes, 1 to 128 screens, at most 65,535 rules, and each rule fits.
 pub record WellFormed (b : Book) : Type 0 where
@@ -46,7 +46,7 @@ pub record WellFormed (b : Book) : Type 0 where
   pub some_screen : 1 ≤ b.screens
   pub few_screens : b.screens ≤ 128
   pub few_rules : length b.rules ≤ 65535
-  pub rules : All (RuleFits b.modes b.screens) b.rules
+  pub rules : AllByRecursion (RuleFits b.modes b.screens) b.rules
 
 -- a rule as a book tells it, its answers by their number
 abbrev pub head_of : Rule → RuleHead

@@ -1,7 +1,7 @@
 -- Working lists of sets: what is added to one, and when it may outgrow its room.
 use Rattle.std.specs.Prelude.{◌≡◌, ℕ, ◌<◌, ◌⊎◌, List, [], length, Result, MatchResult}
 use Rattle.std.specs.Int.Bits.{bit_or}
-use Rattle.std.specs.List.{AllByRecursion as All}
+use Rattle.std.specs.List.{AllByRecursion}
 use Rattle.std.specs.declared.alloc.AllocError.{AllocError}
 use Rattle.states.specs.Lists.{In, NoRepeats}
 
@@ -19,7 +19,7 @@ Lists xs Has = Adds [] xs Has
 pub record Crowded (Has : ℕ → Type 0) : Type 0 where
   pub sets : List ℕ
   pub distinct : NoRepeats sets
-  pub each : All Has sets
+  pub each : AllByRecursion Has sets
   pub many : 65536 < length sets
 
 -- What adding the numbers with a property to a list comes to: they are added, or memory was wanting, which it can be only where the list and they are more than 65,536.
