@@ -50,8 +50,6 @@ fn insert_in(list: &mut Vec<StateSet>, set: StateSet) -> Result<(), AllocError>
     let Err(place) = list.as_slice().binary_search(&set) else {
         return Ok(());
     };
-    match list.insert(place, set) {
-        Ok(()) => Ok(()),
-        Err(_) => Err(AllocError),
-    }
+    list.insert(place, set)?;
+    Ok(())
 }
