@@ -1,5 +1,5 @@
 // What a working list does.
-ghost use Rattle.std.specs.Prelude.{◌≡◌, ◌≤◌, [], length, IfOk, vec_capacity};
+ghost use Rattle.std.specs.Prelude.{◌≡◌, ◌≤◌, [], IfOk, OnErr, vec_capacity};
 ghost use Rattle.std.specs.List.Sorted.{IsStrictlyIncreasing};
 ghost use Rattle.unions.specs.Working.{Added};
 
@@ -31,9 +31,10 @@ impl SetList {
         self.list.as_slice()
     }
 
-    // Puts in one set, if it is not there.
+    // Puts in one set, if it is not there. Where memory is wanting the list stays as it was.
     pub fn insert(&mut self, set: StateSet) -> Result<(), AllocError>
-        ensures { Added result self.old.list.items self.new.list.items (λ X. X ≡ set) }
+        ensures added { Added result self.old.list.items self.new.list.items (λ X. X ≡ set) }
+        ensures same { OnErr result (self.new.list.items ≡ self.old.list.items) }
     {
         insert_in(&mut self.list, set)
     }
@@ -44,6 +45,7 @@ fn insert_in(list: &mut Vec<StateSet>, set: StateSet) -> Result<(), AllocError>
     requires strictly_increasing { IsStrictlyIncreasing list.old.items }
     requires bound { 65536 ≤ vec_capacity list.old }
     ensures added { Added result list.old.items list.new.items (λ X. X ≡ set) }
+    ensures same { OnErr result (list.new.items ≡ list.old.items) }
     ensures climbs { IsStrictlyIncreasing list.new.items }
     ensures room { 65536 ≤ vec_capacity list.new }
 {
