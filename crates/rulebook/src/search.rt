@@ -5,6 +5,7 @@ ghost use Rattle.rulebook.specs.Search.{first_of, First};
 use crate::told::Key;
 
 // A kind of record of which any two agree or do not.
+// It is not `PartialEq`: that would ask each kind of record for more, that agreeing is symmetric and transitive, which no search needs.
 pub trait Same {
     // Whether two records agree.
     ghost same: { Self → Self → Bool };
@@ -28,17 +29,5 @@ pub fn first_place<T: Same>(records: &[T], wanted: &T) -> Option<usize>
     ensures value { result ≡ first_of (λ x. T.same x wanted.now) records.now }
     ensures first { First (λ x. T.same x wanted.now) records.now result }
 {
-    scan(records, wanted)
-}
-
-// The same by the relation alone, of which there is one answer.
-fn scan<T: Same>(records: &[T], wanted: &T) -> Option<usize>
-    ensures { First (λ x. T.same x wanted.now) records.now result }
-{
-    for place in 0..records.len() {
-        if records[place].agrees(wanted) {
-            return Some(place);
-        }
-    }
-    None
+    records.iter().position(|record| record.agrees(wanted))
 }
