@@ -24,6 +24,6 @@ impl Same for Entry {
     ghost same = { same_entry };
 
     fn agrees(&self, other: &Entry) -> bool {
-        self.state == other.state && self.screen == other.screen && self.set == other.set
+        *self == *other
     }
 }

@@ -1,8 +1,8 @@
 // From the bytes of an input to its words.
 #![tactic(auto)]
 
-ghost use Rattle.std.specs.Prelude.{◌≡◌, ◌+◌, ◌*◌, ◌<◌, length, IfOk};
-ghost use Rattle.input.specs.Words.{word_at, words_of};
+ghost use Rattle.std.specs.Prelude.{◌≡◌, IfOk};
+ghost use Rattle.input.specs.Words.{words_of};
 
 use std::alloc::{AllocError, Global};
 
@@ -13,21 +13,12 @@ pub const MOST_WORDS: usize = 13_314;
 pub fn words(heap: Global, bytes: &[u8]) -> Result<Vec<u32>, AllocError>
     ensures { IfOk result (λ v. v.items ≡ words_of bytes.now) }
 {
-    let count = (bytes.len() / 4).min(MOST_WORDS);
-    let mut words = Vec::with_capacity(heap, count)?;
-    for i in 0..count {
-        words.push(word_at(bytes, i))?;
-    }
-    Ok(words)
-}
-
-// Word `i` of the input, its four bytes least first.
-fn word_at(bytes: &[u8], i: usize) -> u32
-    requires { 4 * i + 3 < length bytes.now }
-    ensures { result ≡ word_at bytes.now i }
-{
-    let at = 4 * i;
-    u32::from_le_bytes([bytes[at], bytes[at + 1], bytes[at + 2], bytes[at + 3]])
+    let (whole, _) = bytes.as_chunks::<4>();
+    whole
+        .iter()
+        .take(MOST_WORDS)
+        .map(|word| u32::from_le_bytes(*word))
+        .collect(heap)
 }
 
 #[cfg(test)]
