@@ -1,4 +1,5 @@
 // Why a call on a table was refused.
+// Each refusal tells its number by a method and not by a `From` for `u8`, which would not say what the number is.
 ghost use Rattle.std.specs.Prelude.{◌≡◌};
 ghost use Rattle.table.specs.Refusals.{give_number, mark_number, ask_number};
 
