@@ -1,10 +1,10 @@
 // The text that shows a plan to a person: the listing of any rule book, and the whole text for an input.
 #![tactic(auto)]
 
-ghost use Rattle.std.specs.Prelude.{◌≡◌, ◌++◌, IfOk, Some, string_bytes, OnOk};
+ghost use Rattle.std.specs.Prelude.{◌≡◌, IfOk, Some, string_bytes};
 ghost use Rattle.std.specs.List.{slice_get};
-ghost use Rattle.listing.specs.Pieces.{answers_in, line_in};
-ghost use Rattle.listing.specs.Text.{answer_text, answers_text, first_line, rule_lines, listed};
+ghost use Rattle.listing.specs.Pieces.{line_in};
+ghost use Rattle.listing.specs.Text.{answer_text, listed};
 
 mod whole;
 
@@ -17,57 +17,61 @@ pub use whole::show;
 pub fn list<B: RuleBook>(heap: Global, book: &B) -> Result<String, AllocError>
     ensures { IfOk result (λ t. string_bytes t ≡ listed (B.meaning book.now)) }
 {
-    let mut text = first_line(heap, book)?;
-    write_rules(&mut text, book)?;
-    Ok(text)
+    format!(in heap; "{}", Listing { book })
 }
 
-// The line that says how many modes, screens and rules a book has.
-fn first_line<B: RuleBook>(heap: Global, book: &B) -> Result<String, AllocError>
-    ensures { IfOk result (λ t. string_bytes t ≡ first_line (B.meaning book.now)) }
-{
-    let modes = book.modes();
-    let screens = book.screens();
-    let rules = book.rules();
-    format!(in heap; "modes {modes}, screens {screens}, rules {rules}\n")
+// A book as the text shows it.
+#[derive(Drop)]
+struct Listing<'a, B> {
+    book: &'a B,
 }
 
-// Adds a line for each rule.
-fn write_rules<B: RuleBook>(text: &mut String, book: &B) -> Result<(), AllocError>
-    ensures { OnOk result (string_bytes text.new ≡ string_bytes text.old ++ rule_lines 0 (B.meaning book.now).rules) }
-{
-    for k in 0..book.rules() {
-        write_rule(text, book, k)?;
+impl<'a, B: RuleBook> fmt::Display for Listing<'a, B> {
+    ghost output = { λ s. Some (listed (B.meaning s.book.now)) };
+
+    #[tactic(auto, using(crate::proofs::Lines::written))]
+    fn fmt<W: fmt::Write>(&self, f: &mut fmt::Formatter<W>) -> fmt::Result {
+        let book = self.book;
+        let modes = book.modes();
+        let screens = book.screens();
+        let rules = book.rules();
+        writeln!(f, "modes {modes}, screens {screens}, rules {rules}")?;
+        for k in 0..rules {
+            write!(f, "{}", Line { book, k })?;
+        }
+        Ok(())
     }
-    Ok(())
 }
 
-// Adds the line of rule `k`.
-fn write_rule<B: RuleBook>(text: &mut String, book: &B, k: usize) -> Result<(), AllocError>
-    ensures { OnOk result (string_bytes text.new ≡ string_bytes text.old ++ line_in k (slice_get (B.meaning book.now).rules k)) }
-{
-    let Some(head) = book.rule(k) else {
-        return Ok(());
-    };
-    write!(
-        text,
-        "rule {k}: key {}, mode {}, screen {}, answers",
-        head.key, head.mode, head.screen
-    )?;
-    write_answers(text, book, k)?;
-    writeln!(text)
+// The line of rule `k` of a book.
+#[derive(Drop)]
+struct Line<'a, B> {
+    book: &'a B,
+    k: usize,
 }
 
-// Adds the answers of rule `k`, each after one space.
-fn write_answers<B: RuleBook>(text: &mut String, book: &B, k: usize) -> Result<(), AllocError>
-    ensures { OnOk result (string_bytes text.new ≡ string_bytes text.old ++ answers_text (answers_in (slice_get (B.meaning book.now).rules k))) }
-{
-    let mut j = 0;
-    while let Some(answer) = book.answer(k, j) {
-        write!(text, " {}", Shown(answer))?;
-        j += 1;
+impl<'a, B: RuleBook> fmt::Display for Line<'a, B> {
+    ghost output = { λ s. Some (line_in s.k (slice_get (B.meaning s.book.now).rules s.k)) };
+
+    #[tactic(auto, using(crate::proofs::Lines::written))]
+    fn fmt<W: fmt::Write>(&self, f: &mut fmt::Formatter<W>) -> fmt::Result {
+        let book = self.book;
+        let k = self.k;
+        let Some(head) = book.rule(k) else {
+            return Ok(());
+        };
+        write!(
+            f,
+            "rule {k}: key {}, mode {}, screen {}, answers",
+            head.key, head.mode, head.screen
+        )?;
+        for j in 0..usize::from(head.answers) {
+            if let Some(answer) = book.answer(k, j) {
+                write!(f, " {}", Shown(answer))?;
+            }
+        }
+        writeln!(f)
     }
-    Ok(())
 }
 
 // An answer as the text shows it.
