@@ -1,5 +1,5 @@
 -- An allowance by its parts: what it is set to, and the book that it means.
-use Rattle.std.specs.Prelude.{◌≡◌, ℕ, ◌+◌, ◌*◌, ◌≤◌, List, length, Some, None, vec_items, Option, MatchOption}
+use Rattle.std.specs.Prelude.{◌≡◌, ℕ, ◌≤◌, List, Some, None, vec_items, Option, MatchOption}
 use Rattle.std.specs.Option.{option_map}
 use Rattle.std.specs.List.{slice_get}
 use Rattle.rulebook.specs.Book.{Book}
@@ -17,11 +17,6 @@ setting_of key most = record { key = key; most = most }
 abbrev pub under_at : List ℕ → Option Setting → Book → Book
 under_at places None b = b
 under_at places (Some s) b = allowed_at places s.key s.most b
-
--- a book stays within the bounds of a book under the setting
-pub record Bounded (s : Setting) (b : Book) : Type 0 where
-  pub modes : b.modes * (s.most + 1) ≤ 60
-  pub rules : (s.most + 1) * length b.rules ≤ 65535
 
 -- rule k of a book under a setting comes from there: it is the rule below at that place, with so many left; none where there is no such rule
 abbrev pub Comes : List ℕ → Setting → Book → ℕ → Option Origin → Type 0

@@ -1,36 +1,29 @@
 -- The proof that an allowance that fits a well-formed book means a well-formed one.
 -- A rule book gives that proof with its meaning, so it stands here and not among the proofs.
-use Rattle.std.specs.Prelude.{◌≡◌, ℕ, zero, suc, ◌+◌, ◌-◌, ◌*◌, ◌<◌, ◌≤◌, Bool, true, false, cond, List, map, length, Some, None, Option, ◌==◌, nat_le, refl}
-use Rattle.std.proofs.Common.{sym, ap, ◌∙◌, arith, add-one, mul-add, mul-one, mul-le-mul_left, suc-mul, zero-mul}
+use Rattle.std.specs.Prelude.{◌≡◌, ℕ, zero, suc, ◌+◌, ◌*◌, ◌<◌, ◌≤◌, true, List, map, length, Some, None, Option}
+use Rattle.std.proofs.Common.{sym, ap, arith, add-one, mul-add, mul-one, mul-le-mul_left, suc-mul, zero-mul}
 use Rattle.std.specs.List.{range_with_len, flat_map, AllByRecursion}
 use Rattle.std.proofs.ByRecursion.{All-append, All-map, All-weaker}
-use Rattle.std.proofs.lemmas.List.{length-append, length-map}
-use Rattle.std.proofs.lemmas.Bool.{leb-true}
+use Rattle.std.proofs.lemmas.List.{length-map}
+use Rattle.std.proofs.lemmas.Bool.{cond_both}
+use Rattle.std.proofs.lemmas.Bool.Decides.{nat_tests}
+use Rattle.std.proofs.lemmas.Grind.{common_steps}
 use Rattle.rulebook.specs.Book.{Book, Rule, AnswerFits, RuleFits, WellFormed}
 use Rattle.rulebook.specs.declared.told.Answer.{Answer}
 use Rattle.allowance.specs.Allowed.{leveled, allowed_at, fits, in_force}
 use Rattle.allowance.specs.Allowance.{under_at}
-use Rattle.lock.specs.Formed.{both, picks_few, picks_all}
+use Rattle.lock.specs.Formed.{picks_few, picks_all}
 use Rattle.allowance.specs.Moved.{mode_with, answer_with, left_after, rule_with}
 use Rattle.lock.specs.Places.{rises_from, picks}
 use Rattle.allowance.specs.declared.setting.Setting.{Setting}
 
 -- the two bounds of a setting that fits
 pub fits_parts : (A : ℕ) (b : Book) → fits A b ≡ true → (b.modes * (A + 1) ≤ 60) × ((A + 1) * length b.rules ≤ 65535)
-fits_parts A b e =
-    let parts = both (nat_le (b.modes * (A + 1)) 60) (nat_le ((A + 1) * length b.rules) 65535) e in
-    (leb-true (b.modes * (A + 1)) 60 parts.0, leb-true ((A + 1) * length b.rules) 65535 parts.1)
+fits_parts A b e = (grind (arith, nat_tests), grind (arith, nat_tests))
 
 -- a mode of the book below with at most A left
-pub mode_fits : (P A l m : ℕ) → m < P → l ≤ A → mode_with P l m < P * (A + 1)
+mode_fits : (P A l m : ℕ) → m < P → l ≤ A → mode_with P l m < P * (A + 1)
 mode_fits P A l m h k = omega (arith, mul-add P A 1, mul-one P, mul-le-mul_left P k)
-
-pub left_no_more : (counted key l : ℕ) → left_after counted key l ≤ l
-left_no_more counted key l = go (key == counted)
-  where
-    go : (t : Bool) → cond t (l - 1) l ≤ l
-    go true = omega arith
-    go false = omega arith
 
 module _ (P G A : ℕ) where
   answer_fits : (l : ℕ) → l ≤ A → (a : Answer) → AnswerFits P G a → AnswerFits (P * (A + 1)) G (answer_with P l a)
@@ -40,7 +33,7 @@ module _ (P G A : ℕ) where
   rule_fits counted l k r fit =
       let left : ℕ = left_after counted r.key l in
       let number = length-map r.answers (answer_with P left) in
-      let fewer : left ≤ A = omega (arith, left_no_more counted r.key l) in
+      let fewer : left ≤ A = grind (arith, nat_tests) in
       record {
         key = fit.key;
         mode = mode_fits P A l r.mode fit.mode k;
@@ -62,17 +55,15 @@ module _ {X : Type 0} (f : ℕ → List X) where
       All-append Q (f i) (flat_map f (range_with_len (i + 1) n)) (h i (omega arith)) (all_levels Q (i + 1) n (λ l k. h l (omega arith)))
 
   -- lists of one length, one after another
-  pub length_levels : (k i n : ℕ) → ((l : ℕ) → length (f l) ≡ k) → length (flat_map f (range_with_len i n)) ≡ n * k
+  length_levels : (k i n : ℕ) → ((l : ℕ) → length (f l) ≡ k) → length (flat_map f (range_with_len i n)) ≡ n * k
   length_levels k i zero h = sym (zero-mul k)
-  length_levels k i (suc n) h =
-      length-append (f i) (flat_map f (range_with_len (i + 1) n)) ∙ omega (arith, h i, length_levels k (i + 1) n h, suc-mul n k)
+  length_levels k i (suc n) h = grind (arith, common_steps, suc-mul n k, h i, length_levels k (i + 1) n h)
 
 -- how many rules there are in all
 pub length-leveled : (counted A P : ℕ) (first rules : List Rule) → length (leveled counted A P first rules) ≡ length first + A * length rules
 length-leveled counted A P first rules =
     let level : ℕ → List Rule = λ l. map (rule_with counted P l) rules in
-    let rest = length_levels level (length rules) 1 A (λ l. length-map rules (rule_with counted P l)) in
-    length-append (map (rule_with counted P 0) first) (flat_map level (range_with_len 1 A)) ∙ omega (arith, length-map first (rule_with counted P 0), rest)
+    grind (arith, common_steps, length_levels level (length rules) 1 A (λ l. length-map rules (rule_with counted P l)))
 
 module _ (places : List ℕ) (key A : ℕ) (b : Book) (rises : rises_from 0 places ≡ true) (fit : fits A b ≡ true) (formed : WellFormed b) where
   pub allowed_at_formed : WellFormed (allowed_at places key A b)
@@ -96,8 +87,5 @@ module _ (places : List ℕ) (key A : ℕ) (b : Book) (rises : rises_from 0 plac
 -- an allowance means a well-formed book, whatever it was set to
 pub allowance_formed : (places : List ℕ) (s : Option Setting) (b : Book) → rises_from 0 places ≡ true → WellFormed b → WellFormed (under_at places (in_force s b) b)
 allowance_formed places None b rises formed = formed
-allowance_formed places (Some s) b rises formed = go (fits s.most b) refl
-  where
-    go : (t : Bool) → fits s.most b ≡ t → WellFormed (under_at places (cond t (Some s) None) b)
-    go true e = allowed_at_formed places s.key s.most b rises e formed
-    go false e = formed
+allowance_formed places (Some s) b rises formed =
+    cond_both (fits s.most b) (Some s) None (λ o. WellFormed (under_at places o b)) (λ e. allowed_at_formed places s.key s.most b rises e formed) (λ e. formed)

@@ -2,7 +2,6 @@
 use Rattle.std.specs.Prelude.{ℕ, ◌+◌, ◌-◌, ◌*◌, cond, map, ◌==◌}
 use Rattle.rulebook.specs.Book.{Rule}
 use Rattle.rulebook.specs.declared.told.Answer.{Answer}
-use Rattle.rulebook.specs.declared.told.RuleHead.{RuleHead}
 
 -- the number of mode m with l left, over a book of P modes
 abbrev pub mode_with : ℕ → ℕ → ℕ → ℕ
@@ -25,7 +24,3 @@ rule_with counted P l r =
       screen = r.screen;
       answers = map (answer_with P (left_after counted r.key l)) r.answers;
     }
-
--- the told form of a rule with l left
-abbrev pub head_with : ℕ → ℕ → RuleHead → RuleHead
-head_with P l h = record { key = h.key; mode = mode_with P l h.mode; screen = h.screen; answers = h.answers }

@@ -14,15 +14,5 @@ pub fn most_modes() -> u8
     ensures passes { AllowancesPassOn }
     ensures lasts { FittingLasts }
 {
-    allowance_laws();
     MOST_MODES
 }
-
-// What this rests on.
-fn allowance_laws()
-    ensures formed { AllowancesKeepFormed 60 }
-    ensures unset { UnsetListsBelow }
-    ensures count { RuleCount }
-    ensures passes { AllowancesPassOn }
-    ensures lasts { FittingLasts }
-{}

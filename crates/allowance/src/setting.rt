@@ -1,8 +1,10 @@
 // What an allowance is set to, and where its rules come from.
-ghost use Rattle.std.specs.Prelude.{◌≡◌, ◌+◌, ◌*◌, ◌<◌};
-ghost use Rattle.allowance.specs.Moved.{mode_with, head_with, answer_with, left_after};
+ghost use Rattle.std.specs.Prelude.{◌≡◌};
+ghost use Rattle.allowance.specs.Allowed.{fits, set_answer};
+ghost use Rattle.allowance.specs.Moved.{left_after};
 
-use rulebook::{Answer, Key, Mode, RuleHead};
+use crate::refusal::SettingRefusal;
+use rulebook::{Key, RuleBook};
 
 // The counted key, and how many times it can be pressed.
 #[derive(Clone, Copy)]
@@ -18,45 +20,36 @@ pub(crate) struct Origin {
     pub(crate) place: usize,
 }
 
-// The number of a mode with so many left, over a book of so many modes.
-fn mode_with(modes: u8, left: u8, mode: Mode) -> Mode
-    requires { mode_with modes left mode < 256 }
-    ensures { result ≡ mode_with modes left mode }
-{
-    mode + modes * left
-}
-
-// A rule with so many left.
-pub(crate) fn head_with(modes: u8, left: u8, head: RuleHead) -> RuleHead
-    requires { mode_with modes left head.mode < 256 }
-    ensures { result ≡ head_with modes left head }
-{
-    RuleHead {
-        key: head.key,
-        mode: mode_with(modes, left, head.mode),
-        screen: head.screen,
-        answers: head.answers,
+impl Setting {
+    // What setting it over this book answers: how many modes there are then.
+    pub(crate) fn admit<B: RuleBook>(&self, book: &B) -> Result<u8, SettingRefusal>
+        ensures { result ≡ set_answer (B.meaning book.now) self.now.key self.now.most }
+    {
+        if self.key > 63 {
+            return Err(SettingRefusal::NoSuchKey);
+        }
+        if !self.fits(book) {
+            return Err(SettingRefusal::DoesNotFit);
+        }
+        Ok(book.modes() * (self.most + 1))
     }
-}
 
-// An answer that goes on with so many left.
-pub(crate) fn answer_with(modes: u8, left: u8, answer: Answer) -> Answer
-    requires { mode_with modes left answer.mode < 256 }
-    ensures { result ≡ answer_with modes left answer }
-{
-    Answer {
-        mode: mode_with(modes, left, answer.mode),
-        screens: answer.screens,
+    // Whether the key can be counted so many times over this book.
+    pub(crate) fn fits<B: RuleBook>(&self, book: &B) -> bool
+        ensures { result ≡ fits self.now.most (B.meaning book.now) }
+    {
+        let levels = self.most as usize + 1;
+        book.modes() as usize * levels <= 60 && levels * book.rules() <= 65_535
     }
-}
 
-// How many are left after a press of the key.
-pub(crate) fn left_after(counted: Key, key: Key, left: u8) -> u8
-    ensures { result ≡ left_after counted key left }
-{
-    if key == counted {
-        left.saturating_sub(1)
-    } else {
-        left
+    // How many are left after a press of a key.
+    pub(crate) fn left_after(&self, key: Key, left: u8) -> u8
+        ensures { result ≡ left_after self.now.key key left }
+    {
+        if key == self.key {
+            left.saturating_sub(1)
+        } else {
+            left
+        }
     }
 }

@@ -28,22 +28,19 @@ module _ {X : Type 0} where
     -- a filter leaves out
     pub kept_leaves_out : (xs : List X) → LeavesOut (filter p xs) xs
     kept_leaves_out [] = nothing
-    kept_leaves_out (x ∷ xs) = go (p x) (kept_leaves_out xs)
-      where
-        go : (t : Bool) → LeavesOut (filter p xs) xs → LeavesOut (cond t (x ∷ filter p xs) (filter p xs)) (x ∷ xs)
-        go true l = keeps x l
-        go false l = leaves x l
+    kept_leaves_out (x ∷ xs) =
+        elim (p x) as (λ t. LeavesOut (cond t (x ∷ filter p xs) (filter p xs)) (x ∷ xs)) [
+          | true ↦ keeps x (kept_leaves_out xs)
+          | false ↦ leaves x (kept_leaves_out xs)
+        ]
 
     -- and keeps less of less
     pub left_out_kept : {xs ys : List X} → LeavesOut xs ys → LeavesOut (filter p xs) (filter p ys)
     left_out_kept nothing = nothing
-    left_out_kept (leaves {xs} {ys} y l) = go (p y) (left_out_kept l)
-      where
-        go : (t : Bool) → LeavesOut (filter p xs) (filter p ys) → LeavesOut (filter p xs) (cond t (y ∷ filter p ys) (filter p ys))
-        go true m = leaves y m
-        go false m = m
-    left_out_kept (keeps {xs} {ys} y l) = go (p y) (left_out_kept l)
-      where
-        go : (t : Bool) → LeavesOut (filter p xs) (filter p ys) → LeavesOut (cond t (y ∷ filter p xs) (filter p xs)) (cond t (y ∷ filter p ys) (filter p ys))
-        go true m = keeps y m
-        go false m = m
+    left_out_kept (leaves {xs} {ys} y l) =
+        elim (p y) as (λ t. LeavesOut (filter p xs) (cond t (y ∷ filter p ys) (filter p ys))) [ true ↦ leaves y (left_out_kept l) | false ↦ left_out_kept l ]
+    left_out_kept (keeps {xs} {ys} y l) =
+        elim (p y) as (λ t. LeavesOut (cond t (y ∷ filter p xs) (filter p xs)) (cond t (y ∷ filter p ys) (filter p ys))) [
+          | true ↦ keeps y (left_out_kept l)
+          | false ↦ left_out_kept l
+        ]

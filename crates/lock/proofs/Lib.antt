@@ -2,4 +2,5 @@ pub mod LeftOut
 pub mod Listing
 pub mod Lives
 pub mod LockLaws
+pub mod Same
 pub mod Standing

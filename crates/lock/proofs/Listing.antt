@@ -1,10 +1,11 @@
 -- A lock whose places were gathered lists the rules whose keys are free.
 use Rattle.std.proofs.Common.{◌≡◌, ℕ, List, [], ◌∷◌, filter, refl, ap, ◌∙◌}
+use Rattle.std.proofs.lemmas.Grind.{common_steps}
 use Rattle.rulebook.specs.Book.{Book, Rule}
 use Rattle.lock.specs.Formed.{picked}
 use Rattle.lock.specs.Locked.{free, locked}
 use Rattle.lock.specs.Places.{places_of}
-use Rattle.lock.proofs.Standing.{picks_places}
+use Rattle.lock.proofs.Standing.{picks_places, places_more}
 
 abbrev pub book_of : ℕ → ℕ → List Rule → Book
 book_of modes screens rules = record { modes = modes; screens = screens; rules = rules }
@@ -20,3 +21,6 @@ locked_none b = ap (book_of b.modes b.screens) (all_free b.rules)
     all_free : (rules : List Rule) → filter (free []) rules ≡ rules
     all_free [] = refl
     all_free (r ∷ rest) = ap (λ (rs : List Rule). r ∷ rs) (all_free rest)
+
+-- what `refill` rests on
+pub ruleset refilled = (picked_locked, places_more, common_steps)

@@ -1,14 +1,13 @@
 -- The laws of a lock.
-use Rattle.std.proofs.Common.{◌≡◌, ℕ, suc, Bool, true, false, cond, not, eqb, List, [], ◌∷◌, ◌++◌, is_some, Some, None, filter, Option, sym, refl, ap, ◌∙◌, subst, ⊎_elim, arith}
+use Rattle.std.proofs.Common.{◌≡◌, ℕ, suc, Bool, true, false, cond, not, eqb, List, [], ◌∷◌, ◌++◌, is_some, Some, None, filter, Option, sym, refl, ap, ◌∙◌, subst}
 use Rattle.std.specs.Option.{option_map}
-use Rattle.std.proofs.ByRecursion.{all_kept_by}
-use Rattle.std.proofs.lemmas.Bool.{cases_Bool, cond-true, cond-false}
-use Rattle.rulebook.specs.Book.{Rule, RuleFits}
+use Rattle.rulebook.specs.Book.{Rule}
 use Rattle.rulebook.specs.Search.{first_of}
+use Rattle.lock.specs.Formed.{locked_formed}
 use Rattle.lock.specs.Laws.{LocksKeepFormed, NothingLocked, LocksPile, LocksInEitherOrder, LocksNarrow, LocksPassOn}
 use Rattle.lock.specs.Locked.{among, free}
 use Rattle.lock.specs.Narrower.{LeavesOut}
-use Rattle.lock.proofs.LeftOut.{kept_leaves_out, left_out_kept, left_out_length}
+use Rattle.lock.proofs.LeftOut.{kept_leaves_out, left_out_kept}
 use Rattle.lock.proofs.Listing.{book_of, locked_none}
 
 is_some-option_map : {A B : Type 0} (f : A → B) (o : Option A) → is_some (option_map f o) ≡ is_some o
@@ -18,11 +17,12 @@ is_some-option_map f (Some x) = refl
 -- a test holds somewhere in two lists where it holds somewhere in one of them
 some_append : {X : Type 0} (p : X → Bool) (xs ys : List X) → is_some (first_of p (xs ++ ys)) ≡ cond (is_some (first_of p xs)) true (is_some (first_of p ys))
 some_append p [] ys = refl
-some_append p (x ∷ xs) ys = go (p x) (some_append p xs ys)
-  where
-    go : (t : Bool) → is_some (first_of p (xs ++ ys)) ≡ cond (is_some (first_of p xs)) true (is_some (first_of p ys)) → is_some (cond t (Some 0) (option_map suc (first_of p (xs ++ ys)))) ≡ cond (is_some (cond t (Some 0) (option_map suc (first_of p xs)))) true (is_some (first_of p ys))
-    go true e = refl
-    go false e = is_some-option_map suc (first_of p (xs ++ ys)) ∙ e ∙ sym (ap (λ (t : Bool). cond t true (is_some (first_of p ys))) (is_some-option_map suc (first_of p xs)))
+some_append p (x ∷ xs) ys =
+    let rest = some_append p xs ys in
+    elim (p x) as (λ t. is_some (cond t (Some 0) (option_map suc (first_of p (xs ++ ys)))) ≡ cond (is_some (cond t (Some 0) (option_map suc (first_of p xs)))) true (is_some (first_of p ys))) [
+      | true ↦ refl
+      | false ↦ simp is_some-option_map rest
+    ]
 
 -- a rule is free of two lists of keys where it is free of both
 free-append : (keys more : List ℕ) (r : Rule) → free (keys ++ more) r ≡ cond (free keys r) (free more r) false
@@ -38,11 +38,11 @@ module _ {X : Type 0} where
   kept_both p q r h [] = refl
   kept_both p q r h (x ∷ xs) =
       let rest : filter q (filter p xs) ≡ filter r xs = kept_both p q r h xs in
-      let here = h x in
-      ⊎_elim
-      (λ yes'. let one = cond-true (p x) (x ∷ filter p xs) (filter p xs) yes' in let two = cond-true (p x) (q x) false yes' in ap (filter q) one ∙ cc)
-      (λ no'. let one = cond-false (p x) (x ∷ filter p xs) (filter p xs) no' in let two = cond-false (p x) (q x) false no' in let out = cond-false (r x) (x ∷ filter r xs) (filter r xs) (here ∙ two) in ap (filter q) one ∙ rest ∙ sym out)
-      (cases_Bool (p x))
+      rw (h x)
+      (elim (p x) as (λ t. filter q (cond t (x ∷ filter p xs) (filter p xs)) ≡ cond (cond t (q x) false) (x ∷ filter r xs) (filter r xs)) [
+        | true ↦ ap (λ (ys : List X). cond (q x) (x ∷ ys) ys) rest
+        | false ↦ rest
+      ])
 
   kept_swap : (p q : X → Bool) (xs : List X) → filter q (filter p xs) ≡ filter p (filter q xs)
   kept_swap p q xs = kept_both p q (λ x. cond (p x) (q x) false) (λ x. refl) xs ∙ sym (kept_both q p (λ x. cond (p x) (q x) false) (λ x. swap (p x) (q x)) xs)
@@ -77,15 +77,7 @@ pub locks_pass_on : LocksPassOn
 locks_pass_on keys before after n = record { modes = n.modes; screens = n.screens; rules = left_out_kept (free keys) n.rules }
 
 pub locks_keep_formed : LocksKeepFormed
-locks_keep_formed keys b formed =
-    record {
-      some_mode = formed.some_mode;
-      few_modes = formed.few_modes;
-      some_screen = formed.some_screen;
-      few_screens = formed.few_screens;
-      few_rules = omega (arith, left_out_length (kept_leaves_out (free keys) b.rules), formed.few_rules);
-      rules = all_kept_by (free keys) (RuleFits b.modes b.screens) b.rules formed.rules;
-    }
+locks_keep_formed = locked_formed
 
 pub nothing_locked : NothingLocked
 nothing_locked b = locked_none b

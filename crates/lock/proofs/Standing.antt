@@ -1,43 +1,33 @@
 -- Laws of places: how they are gathered from a book, and what they pick out of it again.
-use Rattle.std.proofs.Common.{◌≡◌, ℕ, zero, suc, ◌+◌, ◌-◌, ◌<◌, ◌≤◌, Bool, true, false, cond, List, [], ◌∷◌, ◌++◌, length, get_or, take, drop, Some, None, filter, Option, sym, refl, ap, ◌∙◌, subst, ⊎_elim, append_assoc, append-nil, add-one, arith}
+use Rattle.std.proofs.Common.{◌≡◌, ℕ, zero, suc, ◌+◌, ◌<◌, ◌≤◌, Bool, true, false, cond, ltb, List, [], ◌∷◌, ◌++◌, length, get_or, take, drop, Some, None, filter, Option, sym, refl, ap, ◌∙◌, add-one, arith}
 use Rattle.std.specs.Option.{option_to_list}
 use Rattle.std.specs.List.{slice_get}
-use Rattle.std.proofs.lemmas.List.{length-append, take_more, drop_all}
-use Rattle.std.proofs.lemmas.Option.{slice_get_past}
-use Rattle.std.proofs.lemmas.Bool.{cond-true, cond-false, le-leb, cases_Bool}
+use Rattle.std.specs.List.Sorted.{IsNonDecreasingBy, IsPartitionPoint}
+use Rattle.std.proofs.lemmas.List.{length-append}
+use Rattle.std.proofs.lemmas.Option.{slice_get_cases, slice_get_past, gets}
+use Rattle.std.proofs.lemmas.Grind.{common_steps}
+use Rattle.std.proofs.lemmas.Bool.{cond-true, le-leb, ltb-true, ltb-false}
 use Rattle.rulebook.specs.Book.{Rule, head_in}
 use Rattle.lock.specs.Locked.{free}
 use Rattle.lock.specs.Places.{places_from, places_of, rises_from, picks, stands_at, free_in}
-use Rattle.lock.specs.Formed.{rises_parts}
+use Rattle.lock.specs.Formed.{rises_parts, picks_few}
 
--- the places of the rules from i on: its own, if its key is free, and those after it
-pub places_next : (keys : List ℕ) (rules : List Rule) (i : ℕ) → places_from (free keys) i (drop i rules) ≡ cond (free_in keys (head_in (slice_get rules i))) (i ∷ places_from (free keys) (i + 1) (drop (i + 1) rules)) (places_from (free keys) (i + 1) (drop (i + 1) rules))
-places_next keys rules i =
-    let P : ℕ → Type 0 = λ n. places_from (free keys) i (drop i rules) ≡ cond (free_in keys (head_in (slice_get rules i))) (i ∷ places_from (free keys) (i + 1) (drop n rules)) (places_from (free keys) (i + 1) (drop n rules)) in
-    subst P (sym (add-one i)) (next i rules i)
+-- the places of one rule more: its own too, if its key is free
+pub places_more : (keys : List ℕ) (rules : List Rule) (i : ℕ) → places_of (free keys) (take (i + 1) rules) ≡ cond (free_in keys (head_in (slice_get rules i))) (places_of (free keys) (take i rules) ++ i ∷ []) (places_of (free keys) (take i rules))
+places_more keys rules i = rw add-one (more 0 i rules i (omega arith))
   where
-    next : (k : ℕ) (rules : List Rule) (i : ℕ) → places_from (free keys) k (drop i rules) ≡ cond (free_in keys (head_in (slice_get rules i))) (k ∷ places_from (free keys) (k + 1) (drop (suc i) rules)) (places_from (free keys) (k + 1) (drop (suc i) rules))
-    next k [] zero = refl
-    next k [] (suc i) = refl
-    next k (r ∷ rest) zero = refl
-    next k (r ∷ rest) (suc i) = next k rest i
-
--- a place is gathered: the gathered ones and those still to come make the whole as before
-pub gathered_more : (keys : List ℕ) (rules : List Rule) (i : ℕ) (before whole : List ℕ) → free_in keys (head_in (slice_get rules i)) ≡ true → before ++ places_from (free keys) i (drop i rules) ≡ whole → (before ++ i ∷ []) ++ places_from (free keys) (i + 1) (drop (i + 1) rules) ≡ whole
-gathered_more keys rules i before whole here e =
-    let rest : List ℕ = places_from (free keys) (i + 1) (drop (i + 1) rules) in
-    append_assoc before (i ∷ []) rest ∙ sym (ap (λ (ps : List ℕ). before ++ ps) (places_next keys rules i ∙ cond-true _ (i ∷ rest) rest here)) ∙ e
-
--- a place is passed over
-pub gathered_same : (keys : List ℕ) (rules : List Rule) (i : ℕ) (before whole : List ℕ) → free_in keys (head_in (slice_get rules i)) ≡ false → before ++ places_from (free keys) i (drop i rules) ≡ whole → before ++ places_from (free keys) (i + 1) (drop (i + 1) rules) ≡ whole
-gathered_same keys rules i before whole gone e =
-    let rest : List ℕ = places_from (free keys) (i + 1) (drop (i + 1) rules) in
-    sym (ap (λ (ps : List ℕ). before ++ ps) (places_next keys rules i ∙ cond-false _ (i ∷ rest) rest gone)) ∙ e
-
--- beyond the last rule all are gathered
-pub gathered_all : (keys : List ℕ) (rules : List Rule) (i : ℕ) (before whole : List ℕ) → length rules ≤ i → before ++ places_from (free keys) i (drop i rules) ≡ whole → before ≡ whole
-gathered_all keys rules i before whole h e =
-    sym (ap (λ (rs : List Rule). before ++ places_from (free keys) i rs) (drop_all i rules h) ∙ append-nil before) ∙ e
+    more : (k j : ℕ) (rules : List Rule) (i : ℕ) → j ≡ k + i → places_from (free keys) k (take (suc i) rules) ≡ cond (free_in keys (head_in (slice_get rules i))) (places_from (free keys) k (take i rules) ++ j ∷ []) (places_from (free keys) k (take i rules))
+    more k j [] zero e = refl
+    more k j [] (suc i) e = refl
+    more k j (r ∷ rest) zero e = let here : j ≡ k = omega arith in rw here refl
+    more k j (r ∷ rest) (suc i) e =
+        let before : List ℕ = places_from (free keys) (k + 1) (take i rest) in
+        let P : Bool → Bool → Type 0 = λ s t. cond s (k ∷ cond t (before ++ j ∷ []) before) (cond t (before ++ j ∷ []) before) ≡ cond t (cond s (k ∷ before) before ++ j ∷ []) (cond s (k ∷ before) before) in
+        rw (more (k + 1) j rest i (omega arith))
+        (elim (free keys r) as (λ s. P s (free_in keys (head_in (slice_get rest i)))) [
+          | true ↦ elim (free_in keys (head_in (slice_get rest i))) as (P true) [ true ↦ refl | false ↦ refl ]
+          | false ↦ refl
+        ])
 
 rises_cons : (i p : ℕ) (ps : List ℕ) → i ≤ p → rises_from (p + 1) ps ≡ true → rises_from i (p ∷ ps) ≡ true
 rises_cons i p ps h e = cond-true _ (rises_from (p + 1) ps) false (le-leb i p h) ∙ e
@@ -48,23 +38,41 @@ rises_lower i j [] h e = refl
 rises_lower i j (p ∷ ps) h e = let parts = rises_parts i p ps e in rises_cons j p ps (omega (arith, parts.0)) parts.1
 
 -- no place of a rising list is lower than its beginning
-rises_bound : (i : ℕ) (ps : List ℕ) (k : ℕ) → rises_from i ps ≡ true → k < length ps → i ≤ get_or ps k 0
-rises_bound i [] k e h = absurd (omega arith)
-rises_bound i (p ∷ ps) zero e h = (rises_parts i p ps e).0
-rises_bound i (p ∷ ps) (suc k) e h =
+rises_bound : (i : ℕ) (ps : List ℕ) (k d : ℕ) → rises_from i ps ≡ true → k < length ps → i ≤ get_or ps k d
+rises_bound i [] k d e h = absurd (omega arith)
+rises_bound i (p ∷ ps) zero d e h = (rises_parts i p ps e).0
+rises_bound i (p ∷ ps) (suc k) d e h =
     let parts = rises_parts i p ps e in
-    omega (arith, parts.0, rises_bound (p + 1) ps k parts.1 (omega arith))
+    omega (arith, parts.0, rises_bound (p + 1) ps k d parts.1 (omega arith))
+
+-- a rising list does not fall
+pub rises_sorted : (i : ℕ) (ps : List ℕ) → rises_from i ps ≡ true → IsNonDecreasingBy (λ p. p) ps
+rises_sorted i [] e j k d h l = absurd (omega arith)
+rises_sorted i (p ∷ ps) e zero zero d h l = omega arith
+rises_sorted i (p ∷ ps) e zero (suc k) d h l = omega (arith, rises_bound (p + 1) ps k d (rises_parts i p ps e).1 (omega arith))
+rises_sorted i (p ∷ ps) e (suc j) zero d h l = absurd (omega arith)
+rises_sorted i (p ∷ ps) e (suc j) (suc k) d h l = rises_sorted (p + 1) ps (rises_parts i p ps e).1 j k d (omega arith) (omega arith)
 
 module _ {X : Type 0} where
   -- gathered places rise
   pub places_rise : (p : X → Bool) (i : ℕ) (xs : List X) → rises_from i (places_from p i xs) ≡ true
   places_rise p i [] = refl
   places_rise p i (x ∷ xs) =
-      let rest : rises_from (i + 1) (places_from p (i + 1) xs) ≡ true = places_rise p (i + 1) xs in
-      ⊎_elim
-      (λ here. ap (rises_from i) (cond-true (p x) (i ∷ places_from p (i + 1) xs) (places_from p (i + 1) xs) here) ∙ rises_cons i i (places_from p (i + 1) xs) (omega arith) rest)
-      (λ gone. ap (rises_from i) (cond-false (p x) (i ∷ places_from p (i + 1) xs) (places_from p (i + 1) xs) gone) ∙ rises_lower (i + 1) i (places_from p (i + 1) xs) (omega arith) rest)
-      (cases_Bool (p x))
+      let later : List ℕ = places_from p (i + 1) xs in
+      elim (p x) as (λ t. rises_from i (cond t (i ∷ later) later) ≡ true) [
+        | true ↦ rises_cons i i later (omega arith) (places_rise p (i + 1) xs)
+        | false ↦ rises_lower (i + 1) i later (omega arith) (places_rise p (i + 1) xs)
+      ]
+
+  -- there is one place for each that passes the test
+  pub length-places : (p : X → Bool) (i : ℕ) (xs : List X) → length (places_from p i xs) ≡ length (filter p xs)
+  length-places p i [] = refl
+  length-places p i (x ∷ xs) =
+      let later : List ℕ = places_from p (i + 1) xs in
+      elim (p x) as (λ t. length (cond t (i ∷ later) later) ≡ length (cond t (x ∷ filter p xs) (filter p xs))) [
+        | true ↦ ap suc (length-places p (i + 1) xs)
+        | false ↦ length-places p (i + 1) xs
+      ]
 
   -- what stands first in what is left from i on stands at i
   nth_drop : (xs : List X) (i : ℕ) (y : X) (ys : List X) → drop i xs ≡ y ∷ ys → (slice_get xs i ≡ Some y) × (drop (suc i) xs ≡ ys)
@@ -78,19 +86,12 @@ module _ {X : Type 0} where
   picks_from p all i [] e = refl
   picks_from p all i (x ∷ xs) e =
       let here = nth_drop all i x xs e in
-      let later : drop (i + 1) all ≡ xs = rw (add-one i) here.1 in
-      let rest : picks (places_from p (i + 1) xs) all ≡ filter p xs = picks_from p all (i + 1) xs later in
-      ⊎_elim
-      (λ yes'.
-      ap (λ (ps : List ℕ). picks ps all) (cond-true (p x) (i ∷ places_from p (i + 1) xs) (places_from p (i + 1) xs) yes')
-      ∙ ap (λ (o : Option X). option_to_list o ++ picks (places_from p (i + 1) xs) all) here.0
-      ∙ ap (λ (ys : List X). x ∷ ys) rest
-      ∙ sym (cond-true (p x) (x ∷ filter p xs) (filter p xs) yes'))
-      (λ no'.
-      ap (λ (ps : List ℕ). picks ps all) (cond-false (p x) (i ∷ places_from p (i + 1) xs) (places_from p (i + 1) xs) no')
-      ∙ rest
-      ∙ sym (cond-false (p x) (x ∷ filter p xs) (filter p xs) no'))
-      (cases_Bool (p x))
+      let later : List ℕ = places_from p (i + 1) xs in
+      let rest : picks later all ≡ filter p xs = picks_from p all (i + 1) xs (rw (add-one i) here.1) in
+      elim (p x) as (λ t. picks (cond t (i ∷ later) later) all ≡ cond t (x ∷ filter p xs) (filter p xs)) [
+        | true ↦ ap (λ (o : Option X). option_to_list o ++ picks later all) here.0 ∙ ap (λ (ys : List X). x ∷ ys) rest
+        | false ↦ rest
+      ]
 
   pub picks_places : (p : X → Bool) (xs : List X) → picks (places_of p xs) xs ≡ filter p xs
   picks_places p xs = picks_from p xs 0 xs refl
@@ -111,9 +112,7 @@ module _ {X : Type 0} where
       stands_past (p + 1) ps xs k parts.1 (omega (arith, parts.0))
 
   nth_none : (xs : List X) (i : ℕ) → slice_get xs i ≡ None → length xs ≤ i
-  nth_none [] i e = omega arith
-  nth_none (x ∷ xs) zero e = let z : ◌≡◌ {A = ℕ} 0 1 = cc in absurd (omega arith)
-  nth_none (x ∷ xs) (suc i) e = omega (arith, nth_none xs i e)
+  nth_none xs i e = grind (arith, slice_get_cases)
 
   -- the k-th that is picked stands at the k-th place
   pub nth_picks : (i : ℕ) (ps : List ℕ) (xs : List X) (k : ℕ) → rises_from i ps ≡ true → slice_get (picks ps xs) k ≡ stands_at (slice_get ps k) xs
@@ -131,35 +130,25 @@ module _ {X : Type 0} where
           let whole : rises_from p (p ∷ ps) ≡ true = rises_cons p p ps (omega arith) parts.1 in
           ap (λ (ys : List X). slice_get ys k) (picks_past p (p ∷ ps) xs whole beyond) ∙ sym (stands_past p (p ∷ ps) xs k whole beyond)
 
-  picks-append : (ps qs : List ℕ) (xs : List X) → picks (ps ++ qs) xs ≡ picks ps xs ++ picks qs xs
-  picks-append [] qs xs = refl
-  picks-append (p ∷ ps) qs xs = ap (λ (ys : List X). option_to_list (slice_get xs p) ++ ys) (picks-append ps qs xs) ∙ sym (append_assoc (option_to_list (slice_get xs p)) (picks ps xs) (picks qs xs))
-
-  -- a last place beyond the list picks nothing
-  pub count_less : (ps : List ℕ) (xs : List X) (n count : ℕ) → 0 < count → count ≤ length ps → n ≡ length xs → n ≤ get_or ps (count - 1) 0 → length (picks (take (count - 1) ps) xs) ≡ length (picks (take count ps) xs)
-  count_less ps xs n count some within e beyond =
-      let before : List ℕ = take (count - 1) ps in
-      let last : ℕ = get_or ps (count - 1) 0 in
-      let same : count - 1 + 1 ≡ count = omega arith in
-      let more : take count ps ≡ before ++ last ∷ [] = ap (λ (k : ℕ). take k ps) (sym same) ∙ take_more ps (count - 1) 0 (omega arith) in
-      let none : picks (last ∷ []) xs ≡ [] = ap (λ (o : Option X). option_to_list o ++ []) (slice_get_past xs last (omega arith)) in
-      sym (ap (λ (qs : List ℕ). length (picks qs xs)) more ∙ ap length (picks-append before (last ∷ []) xs ∙ ap (λ (ys : List X). picks before xs ++ ys) none ∙ append-nil (picks before xs)))
+  -- the same where the k-th place is known
+  pub found_picks : (ps : List ℕ) (xs : List X) (k : ℕ) (o : Option ℕ) → rises_from 0 ps ≡ true → o ≡ slice_get ps k → slice_get (picks ps xs) k ≡ stands_at o xs
+  found_picks ps xs k o rises here = nth_picks 0 ps xs k rises ∙ sym (ap (λ (q : Option ℕ). stands_at q xs) here)
 
   one_there : (xs : List X) (p : ℕ) → p < length xs → length (option_to_list (slice_get xs p)) ≡ 1
-  one_there [] p h = absurd (omega arith)
-  one_there (x ∷ xs) zero h = refl
-  one_there (x ∷ xs) (suc p) h = one_there xs p (omega arith)
+  one_there xs p h = grind (arith, slice_get_cases)
 
-  -- where the last place is within the list, each place picks one
-  all_there : (i : ℕ) (ps : List ℕ) (xs : List X) (k : ℕ) → rises_from i ps ≡ true → k < length ps → get_or ps k 0 < length xs → length (picks (take (suc k) ps) xs) ≡ suc k
-  all_there i [] xs k e h l = absurd (omega arith)
-  all_there i (p ∷ ps) xs zero e h l = length-append (option_to_list (slice_get xs p)) [] ∙ omega (arith, one_there xs p l)
-  all_there i (p ∷ ps) xs (suc k) e h l =
+  -- the places before the end of a list are as many as they pick
+  pub count_picked : (i : ℕ) (ps : List ℕ) (xs : List X) (count : ℕ) → rises_from i ps ≡ true → count ≤ length ps → IsPartitionPoint (λ p. ltb p (length xs) ≡ true) (λ p. ltb p (length xs) ≡ false) ps count → count ≡ length (picks ps xs)
+  count_picked i [] xs count e h at = omega arith
+  count_picked i (p ∷ ps) xs zero e h at =
       let parts = rises_parts i p ps e in
-      let lower : p < length xs = omega (arith, rises_bound (p + 1) ps k parts.1 (omega arith)) in
-      length-append (option_to_list (slice_get xs p)) (picks (take (suc k) ps) xs) ∙ omega (arith, one_there xs p lower, all_there (p + 1) ps xs k parts.1 (omega arith) l)
+      let beyond = ltb-false p (length xs) (at.1 0 0 (omega arith) (omega arith)) in
+      omega (arith, picks_few p (p ∷ ps) xs (rises_cons p p ps (omega arith) parts.1), beyond)
+  count_picked i (p ∷ ps) xs (suc count) e h at =
+      let parts = rises_parts i p ps e in
+      let within = ltb-true p (length xs) (at.0 0 0 (omega arith) (omega arith)) in
+      let rest = count_picked (p + 1) ps xs count parts.1 (omega arith) (λ k d l m. at.0 (suc k) d (omega arith) (omega arith), λ k d l m. at.1 (suc k) d (omega arith) (omega arith)) in
+      omega (arith, length-append (option_to_list (slice_get xs p)) (picks ps xs), one_there xs p within, rest)
 
-  pub count_all : (ps : List ℕ) (xs : List X) (n count : ℕ) → rises_from 0 ps ≡ true → 0 < count → count ≤ length ps → n ≡ length xs → get_or ps (count - 1) 0 < n → length (picks (take count ps) xs) ≡ count
-  count_all ps xs n count e some within is here =
-      let same : suc (count - 1) ≡ count = omega arith in
-      ap (λ (k : ℕ). length (picks (take k ps) xs)) (sym same) ∙ all_there 0 ps xs (count - 1) e (omega arith) (omega arith) ∙ same
+-- what `find` rests on
+pub ruleset found = (found_picks, common_steps, gets)

@@ -4,16 +4,19 @@ use Rattle.std.specs.Prelude.{◌≡◌, ℕ, zero, suc, ◌+◌, ◌-◌, ◌�
 use Rattle.std.proofs.Common.{arith}
 use Rattle.std.specs.Option.{option_to_list}
 use Rattle.std.specs.List.{AllByRecursion, slice_get}
-use Rattle.std.proofs.ByRecursion.{All-append}
+use Rattle.std.proofs.ByRecursion.{All-append, all_kept_by}
 use Rattle.std.proofs.lemmas.List.{length-append}
+use Rattle.std.proofs.lemmas.List.Sums.{length-filter, count_by-le-length}
 use Rattle.std.proofs.lemmas.Bool.{leb-true, false≢true}
 use Rattle.rulebook.specs.Book.{Book, RuleFits, WellFormed}
+use Rattle.lock.specs.Locked.{free, locked}
 use Rattle.lock.specs.Places.{rises_from, picks}
 
 -- The book with the rules that stand at these places.
 abbrev pub picked : List ℕ → Book → Book
 picked ps b = record { modes = b.modes; screens = b.screens; rules = picks ps b.rules }
 
+-- the two parts of a test that holds of both, which std has of `&&` alone
 pub both : (a b : Bool) → cond a b false ≡ true → (a ≡ true) × (b ≡ true)
 both true b e = (refl, e)
 both false b e = absurd (false≢true e)
@@ -40,6 +43,7 @@ module _ {X : Type 0} where
       let rest = picks_few (p + 1) ps xs parts.1 in
       omega (arith, parts.0, one.0, one.1, rest, length-append (option_to_list (slice_get xs p)) (picks ps xs))
 
+  -- what holds of each element holds of what stands at one place
   all_at : (P : X → Type 0) (xs : List X) (p : ℕ) → AllByRecursion P xs → AllByRecursion P (option_to_list (slice_get xs p))
   all_at P [] p all = tt
   all_at P (x ∷ xs) zero all = (all.0, tt)
@@ -50,14 +54,14 @@ module _ {X : Type 0} where
   picks_all P [] xs all = tt
   picks_all P (p ∷ ps) xs all = All-append P (option_to_list (slice_get xs p)) (picks ps xs) (all_at P xs p all) (picks_all P ps xs all)
 
--- rising places pick a well-formed book out of a well-formed one
-pub picked_formed : (ps : List ℕ) (b : Book) → rises_from 0 ps ≡ true → WellFormed b → WellFormed (picked ps b)
-picked_formed ps b e formed =
+-- A lock over a well-formed book means a well-formed one.
+pub locked_formed : (keys : List ℕ) (b : Book) → WellFormed b → WellFormed (locked keys b)
+locked_formed keys b formed =
     record {
       some_mode = formed.some_mode;
       few_modes = formed.few_modes;
       some_screen = formed.some_screen;
       few_screens = formed.few_screens;
-      few_rules = omega (arith, picks_few 0 ps b.rules e, formed.few_rules);
-      rules = picks_all (RuleFits b.modes b.screens) ps b.rules formed.rules;
+      few_rules = omega (arith, length-filter (free keys) b.rules, count_by-le-length (free keys) b.rules, formed.few_rules);
+      rules = all_kept_by (free keys) (RuleFits b.modes b.screens) b.rules formed.rules;
     }

@@ -35,25 +35,16 @@ impl Keys {
         ensures items { self.new.list.items ≡ keys_after self.old.list.items key }
         ensures same { is_ok result ≡ false → self.new ≡ self.old }
     {
-        let count = admit(self.as_slice(), key)?;
+        if key > 63 {
+            return Err(LockRefusal::NoSuchKey);
+        }
+        if first_place(self.as_slice(), &key).is_some() {
+            return Err(LockRefusal::AlreadyLocked);
+        }
+        if self.list.len() >= MOST_KEYS {
+            return Err(LockRefusal::Full);
+        }
         self.list.push_reserved(key);
-        Ok(count)
+        Ok(self.list.len())
     }
-}
-
-// What locking a key answers where these keys are locked.
-fn admit(keys: &[Key], key: Key) -> Result<usize, LockRefusal>
-    ensures value { result ≡ lock_answer keys.now key }
-    ensures bound { OnOk result (length keys.now < 16) }
-{
-    if key > 63 {
-        return Err(LockRefusal::NoSuchKey);
-    }
-    if first_place(keys, &key).is_some() {
-        return Err(LockRefusal::AlreadyLocked);
-    }
-    if keys.len() >= MOST_KEYS {
-        return Err(LockRefusal::Full);
-    }
-    Ok(keys.len() + 1)
 }

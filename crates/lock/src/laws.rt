@@ -15,16 +15,5 @@ pub fn most_keys() -> usize
     ensures narrows { LocksNarrow }
     ensures passes { LocksPassOn }
 {
-    lock_laws();
     MOST_KEYS
 }
-
-// What this rests on.
-fn lock_laws()
-    ensures formed { LocksKeepFormed }
-    ensures none { NothingLocked }
-    ensures piles { LocksPile }
-    ensures order { LocksInEitherOrder }
-    ensures narrows { LocksNarrow }
-    ensures passes { LocksPassOn }
-{}

@@ -19,18 +19,12 @@ pub type Pile<'a> = Allowance<Lock<Image<'a>>>;
 
 // The pile over a plan, with no key locked and the allowance not set: it lists what the plan lists.
 // Whatever keys are locked and whatever is set then, in any order, it means the plan under the locked keys and the setting.
+#[tactic(auto, using(crate::proofs::Stands::pile_stands))]
 pub fn over<'a>(heap: Global, plan: Image<'a>) -> Result<Pile<'a>, AllocError>
     ensures meaning { IfOk result (λ p. pile_book p ≡ book_in plan.entry) }
     ensures made { IfOk result (λ p. PileMade plan.entry p) }
     ensures lived { PileStands }
 {
-    pile_lives();
     let lock = Lock::new(heap, plan)?;
-    let allowance = Allowance::new(heap, lock)?;
-    Ok(allowance)
+    Ok(Allowance::new(heap, lock)?)
 }
-
-// What the pile means in its whole life.
-fn pile_lives()
-    ensures { PileStands }
-{}

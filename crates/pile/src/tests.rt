@@ -7,45 +7,18 @@ use rulebook::{Answer, Key, RuleBook, RuleHead};
 use std::alloc::{AllocError, Global};
 use std::test::Fail;
 
-// P = 2, G = 3, and the rules (key 1) 0 0 → (0: 1, 0), (key 2) 0 1 → (0: none), (key 3) 0 1 → (1: 2, 1) (1: 2), (key 4) 1 2 → (0: none).
+// P = 2, G = 3, and four rules.
 const PLAN: [u32; 37] = [
-    0x1004_0302,
-    0x2041_0000,
-    0x3000_0600,
-    0,
-    0,
-    0,
-    0,
-    0,
-    0,
-    0,
-    0x2042_0100,
-    0x3000_0000,
-    0,
-    0,
-    0,
-    0,
-    0,
-    0,
-    0,
-    0x2083_0100,
-    0x3004_0A01,
-    0x3000_0901,
-    0,
-    0,
-    0,
-    0,
-    0,
-    0,
-    0x2044_0201,
-    0x3000_0000,
-    0,
-    0,
-    0,
-    0,
-    0,
-    0,
-    0,
+    // heading
+    0x10040302,
+    // rule 0: key 1, mode 0, screen 0, answer (0: 1, 0)
+    0x20410000, 0x30000600, 0, 0, 0, 0, 0, 0, 0,
+    // rule 1: key 2, mode 0, screen 1, answer (0: none)
+    0x20420100, 0x30000000, 0, 0, 0, 0, 0, 0, 0,
+    // rule 2: key 3, mode 0, screen 1, answers (1: 2, 1) and (1: 2)
+    0x20830100, 0x30040A01, 0x30000901, 0, 0, 0, 0, 0, 0,
+    // rule 3: key 4, mode 1, screen 2, answer (0: none)
+    0x20440201, 0x30000000, 0, 0, 0, 0, 0, 0, 0,
 ];
 
 // A rule as a book tells it, with its first three answers.
@@ -57,57 +30,59 @@ struct Line {
 
 // The rules of a book, read by its questions.
 fn lines<B: RuleBook>(heap: Global, book: &B) -> Result<Vec<Line>, AllocError> {
-    let mut all = Vec::new(heap);
-    for k in 0..book.rules() {
-        if let Some(head) = book.rule(k) {
-            let answers = [book.answer(k, 0), book.answer(k, 1), book.answer(k, 2)];
-            all.push(Line { head, answers })?;
-        }
-    }
-    Ok(all)
+    (0..book.rules())
+        .filter_map(|k| {
+            let head = book.rule(k)?;
+            let answers = [0, 1, 2].map(|j| book.answer(k, j));
+            Some(Line { head, answers })
+        })
+        .collect(heap)
 }
 
 // The lines without those of a key.
 fn without(heap: Global, below: &[Line], key: Key) -> Result<Vec<Line>, AllocError> {
-    let mut all = Vec::new(heap);
-    for line in below {
-        if line.head.key != key {
-            all.push(*line)?;
-        }
-    }
-    Ok(all)
+    below
+        .iter()
+        .copied()
+        .filter(|line| line.head.key != key)
+        .collect(heap)
 }
 
-fn moved(answer: Option<Answer>, by: u8) -> Option<Answer> {
-    let a = answer?;
-    Some(Answer {
-        mode: a.mode.wrapping_add(by),
-        screens: a.screens,
-    })
+// The line with its mode, and those of its answers, so many numbers on.
+fn moved(line: &Line, here: u8, there: u8) -> Line {
+    Line {
+        head: RuleHead {
+            mode: line.head.mode.wrapping_add(here),
+            ..line.head
+        },
+        answers: line.answers.map(|answer| {
+            let answer = answer?;
+            Some(Answer {
+                mode: answer.mode.wrapping_add(there),
+                ..answer
+            })
+        }),
+    }
 }
 
 // The lines of a book of two modes in which a key can be pressed so many times.
 fn counted(heap: Global, below: &[Line], key: Key, most: u8) -> Result<Vec<Line>, AllocError> {
-    let mut all = Vec::new(heap);
-    for left in 0..=most {
+    let mut all = without(heap, below, key)?;
+    for left in 1..=most {
+        let here = left.wrapping_mul(2);
         for line in below {
-            let counts = line.head.key == key;
-            if counts && left == 0 {
-                continue;
-            }
-            let here = left.wrapping_mul(2);
-            let there = if counts { here.wrapping_sub(2) } else { here };
-            let mut head = line.head;
-            head.mode = head.mode.wrapping_add(here);
-            let [a, b, c] = line.answers;
-            let answers = [moved(a, there), moved(b, there), moved(c, there)];
-            all.push(Line { head, answers })?;
+            let there = if line.head.key == key {
+                here.wrapping_sub(2)
+            } else {
+                here
+            };
+            all.push(moved(line, here, there))?;
         }
     }
     Ok(all)
 }
 
-fn plan<'a>(words: &'a [u32]) -> Image<'a> {
+fn plan(words: &[u32]) -> Image<'_> {
     let mut image = Image::new();
     let _ = image.load(words);
     image
@@ -116,10 +91,7 @@ fn plan<'a>(words: &'a [u32]) -> Image<'a> {
 // What a pile over the example plan answers to a setting, and how many rules it lists then.
 fn set(heap: Global, key: Key, most: u8) -> Result<(Result<u8, u8>, u8, usize), AllocError> {
     let mut pile = over(heap, plan(&PLAN))?;
-    let answer = match pile.set(key, most) {
-        Ok(modes) => Ok(modes),
-        Err(refusal) => Err(refusal.number()),
-    };
+    let answer = pile.set(key, most).map_err(|refusal| refusal.number());
     Ok((answer, pile.modes(), pile.rules()))
 }
 

@@ -1,11 +1,10 @@
 // Making an allowance, setting it, and locking a key in a lock below it.
 ghost use Rattle.std.specs.Prelude.{◌≡◌, IfOk, IfErr};
-ghost use Rattle.allowance.specs.Allowed.{allowance, set_answer};
+ghost use Rattle.allowance.specs.Allowed.{allowance};
 ghost use Rattle.allowance.specs.Life.{Made, Sets, Follows, AlwaysAllows};
 ghost use Rattle.lock.specs.Locking.{Locks};
 
 use crate::allowance::Allowance;
-use crate::allowance::book::setting_fits;
 use crate::refusal::SettingRefusal;
 use crate::setting::Setting;
 use lock::{LockRefusal, Lockable, Places};
@@ -15,12 +14,13 @@ use std::alloc::{AllocFailed, Global};
 impl<B: RuleBook> Allowance<B> {
     // An allowance over this book, not set: it lists what the book lists. Where memory is wanting the book comes back.
     // Whatever is called then, an allowance means the book below it under its setting.
+    #[tactic(auto, using(crate::proofs::Lives::always_allows))]
     pub fn new(heap: Global, below: B) -> Result<Allowance<B>, AllocFailed<B>>
         ensures made { IfOk result (λ s. Made B.meaning below s) }
         ensures refused { IfErr result (λ y. y.value ≡ below) }
         ensures lived { AlwaysAllows B.meaning }
     {
-        always_allows(&below);
+        // By `map_err` the closure would take the book where there is no error too.
         let Ok(first) = Places::new(heap, &below, &[]) else {
             return Err(AllocFailed { value: below });
         };
@@ -35,24 +35,12 @@ impl<B: RuleBook> Allowance<B> {
     pub fn set(&mut self, key: Key, most: u8) -> Result<u8, SettingRefusal>
         ensures { Sets B.meaning self.old key most result self.new }
     {
-        let modes = admit(&self.below, key, most)?;
-        self.setting = Some(Setting { key, most });
+        let setting = Setting { key, most };
+        let modes = setting.admit(&self.below)?;
+        self.setting = Some(setting);
         self.first.refill(&self.below, &[key]);
         Ok(modes)
     }
-}
-
-// What setting a key and a number of times answers over this book.
-fn admit<B: RuleBook>(book: &B, key: Key, most: u8) -> Result<u8, SettingRefusal>
-    ensures { result ≡ set_answer (B.meaning book.now) key most }
-{
-    if key > 63 {
-        return Err(SettingRefusal::NoSuchKey);
-    }
-    if !setting_fits(book, most) {
-        return Err(SettingRefusal::DoesNotFit);
-    }
-    Ok(book.modes() * (most + 1))
 }
 
 impl<B: Lockable> Allowance<B> {
@@ -78,8 +66,3 @@ impl<B: Lockable> Lockable for Allowance<B> {
         self.lock_below(key)
     }
 }
-
-// What an allowance over such a book means in its whole life.
-fn always_allows<B: RuleBook>(_below: &B)
-    ensures { AlwaysAllows B.meaning }
-{}

@@ -1,64 +1,99 @@
-// The rules of an allowance under a setting: those with none left, and then all the rules below with 1 left, with 2, and so on.
-ghost use Rattle.std.specs.Prelude.{◌≡◌, length};
-ghost use Rattle.rulebook.specs.Book.{rule_at, answer_at};
-ghost use Rattle.allowance.specs.Allowance.{Bounded, Comes};
-ghost use Rattle.allowance.specs.Allowed.{allowed_at};
+// The levels of an allowance: the rules below with none left, and then all of them with 1 left, with 2, and so on.
+ghost use Rattle.std.specs.Prelude.{◌≡◌, ◌<◌, ◌≤◌, true, MatchOption};
+ghost use Rattle.allowance.specs.Allowance.{allowance_book, Comes};
+ghost use Rattle.allowance.specs.Allowed.{allowed_at, fits};
+ghost use Rattle.allowance.specs.Levels.{allowed_at_formed};
+ghost use Rattle.allowance.specs.Moved.{mode_with};
 
 use crate::allowance::Allowance;
-use crate::setting::{Origin, Setting, answer_with, head_with, left_after};
-use rulebook::{Answer, RuleBook, RuleHead};
+use crate::setting::{Origin, Setting};
+use lock::Places;
+use rulebook::{Answer, Mode, RuleBook, RuleHead};
+
+// A book under a setting that fits it. `first` are the places of the rules below that are listed where none is left.
+#[derive(Drop)]
+pub(super) struct Levels<'a, B: RuleBook> {
+    below: &'a B,
+    first: &'a Places,
+    setting: Setting,
+    ghost fit: { fits setting.most (B.RuleBook.meaning below.now) ≡ true },
+}
 
 impl<B: RuleBook> Allowance<B> {
-    // How many rules there are.
-    pub(super) fn rules_under(&self, setting: Setting) -> usize
-        requires { Bounded setting (B.meaning self.now.below) }
-        ensures { result ≡ length (allowed_at self.now.first.list.items setting.key setting.most (B.meaning self.now.below)).rules }
+    // The levels that count: none before any setting, or where it does not fit the book below.
+    pub(super) fn levels(&self) -> Option<Levels<'_, B>>
+        ensures { MatchOption result (allowance_book B.meaning self.now ≡ B.meaning self.now.below) (λ l. allowance_book B.meaning self.now ≡ ⟦<Levels<'static, B> as RuleBook>⟧.meaning l) }
     {
-        self.first.count(&self.below) + setting.most as usize * self.below.rules()
+        let setting = self.setting.filter(|setting| setting.fits(&self.below))?;
+        Some(Levels {
+            below: &self.below,
+            first: &self.first,
+            setting,
+        })
+    }
+}
+
+impl<B: RuleBook> RuleBook for Levels<'_, B> {
+    ghost meaning = { λ l. allowed_at l.first.now.list.items l.setting.key l.setting.most (B.RuleBook.meaning l.below.now) };
+
+    ghost formed = { λ l. allowed_at_formed l.first.now.list.items l.setting.key l.setting.most (B.RuleBook.meaning l.below.now) l.first.now.rises l.fit (B.RuleBook.formed l.below.now) };
+
+    fn modes(&self) -> u8 {
+        self.below.modes() * (self.setting.most + 1)
     }
 
-    // Rule `k`.
-    pub(super) fn rule_under(&self, setting: Setting, k: usize) -> Option<RuleHead>
-        requires { Bounded setting (B.meaning self.now.below) }
-        ensures { result ≡ rule_at (allowed_at self.now.first.list.items setting.key setting.most (B.meaning self.now.below)) k }
-    {
-        let origin = self.find(setting, k)?;
+    fn screens(&self) -> u8 {
+        self.below.screens()
+    }
+
+    fn rules(&self) -> usize {
+        self.first.count(self.below) + self.setting.most as usize * self.below.rules()
+    }
+
+    fn rule(&self, k: usize) -> Option<RuleHead> {
+        let origin = self.find(k)?;
         let head = self.below.rule(origin.place)?;
-        Some(head_with(self.below.modes(), origin.left, head))
+        Some(RuleHead {
+            mode: self.mode(origin.left, head.mode),
+            ..head
+        })
     }
 
-    // Answer `j` of rule `k`.
-    pub(super) fn answer_under(&self, setting: Setting, k: usize, j: usize) -> Option<Answer>
-        requires { Bounded setting (B.meaning self.now.below) }
-        ensures { result ≡ answer_at (allowed_at self.now.first.list.items setting.key setting.most (B.meaning self.now.below)) k j }
-    {
-        let origin = self.find(setting, k)?;
+    fn answer(&self, k: usize, j: usize) -> Option<Answer> {
+        let origin = self.find(k)?;
         let head = self.below.rule(origin.place)?;
         let answer = self.below.answer(origin.place, j)?;
-        let left = left_after(setting.key, head.key, origin.left);
-        Some(answer_with(self.below.modes(), left, answer))
+        let left = self.setting.left_after(head.key, origin.left);
+        Some(Answer {
+            mode: self.mode(left, answer.mode),
+            ..answer
+        })
+    }
+}
+
+impl<B: RuleBook> Levels<'_, B> {
+    // The number of a mode below with so many left.
+    fn mode(&self, left: u8, mode: Mode) -> Mode
+        requires left { left ≤ self.now.setting.most }
+        requires mode { mode < (B.meaning self.now.below.now).modes }
+        ensures { result ≡ mode_with (B.meaning self.now.below.now).modes left mode }
+    {
+        mode + self.below.modes() * left
     }
 
     // Where rule `k` comes from.
-    fn find(&self, setting: Setting, k: usize) -> Option<Origin>
-        ensures { Comes self.now.first.list.items setting (B.meaning self.now.below) k result }
+    fn find(&self, k: usize) -> Option<Origin>
+        ensures { Comes self.now.first.now.list.items self.now.setting (B.meaning self.now.below.now) k result }
     {
-        let first = self.first.count(&self.below);
-        if k < first {
-            let place = self.first.find(k)?;
-            return Some(Origin { left: 0, place });
-        }
+        let first = self.first.count(self.below);
+        let Some(above) = k.checked_sub(first) else {
+            return self.first.find(k).map(|place| Origin { left: 0, place });
+        };
         let rules = self.below.rules();
-        if rules == 0 {
-            return None;
-        }
-        let level = (k - first) / rules;
-        if level >= setting.most as usize {
-            return None;
-        }
-        Some(Origin {
+        let level = above.checked_div(rules)?;
+        (level < self.setting.most as usize).then(|| Origin {
             left: level as u8 + 1,
-            place: (k - first) % rules,
+            place: above % rules,
         })
     }
 }
