@@ -20,7 +20,7 @@ impl<B: RuleBook> Allowance<B> {
         ensures refused { IfErr result (λ y. y.value ≡ below) }
         ensures lived { AlwaysAllows B.meaning }
     {
-        // By `map_err` the closure would take the book where there is no error too.
+        // By `map_err` a closure would hold the book, which asks `B: Drop` of callers.
         let Ok(first) = Places::new(heap, &below, &[]) else {
             return Err(AllocFailed { value: below });
         };
