@@ -3,4 +3,3 @@ pub mod Questions
 pub mod Words
 pub mod Written
 pub mod Rewritten
-pub mod Loads

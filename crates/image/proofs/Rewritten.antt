@@ -2,7 +2,7 @@
 use Rattle.std.proofs.Common.{◌≡◌, ℕ, zero, suc, ◌+◌, ◌*◌, ◌/◌, ◌%◌, ◌<◌, ◌≤◌, true, ltb, List, length, get_or, sym, refl, ap, ◌∙◌, ⊎_elim, arith}
 use Rattle.std.specs.List.{flat_map, AllByRecursion}
 use Rattle.std.proofs.lemmas.List.{ext_get_or}
-use Rattle.std.proofs.lemmas.List.FromFn.{length-map-range_with_len, get_or-map-range_with_len}
+use Rattle.std.proofs.lemmas.List.FromFn.{get_or-map-range_with_len}
 use Rattle.std.proofs.lemmas.Bool.{cases_lt, eqb-true}
 use Rattle.rulebook.specs.Book.{Rule}
 use Rattle.rulebook.specs.Told.{count_of, first_screen, second_screen}
@@ -10,8 +10,8 @@ use Rattle.image.specs.Layout.{modes_in, screens_in, rules_in, answers_in, count
 use Rattle.image.specs.Plan.{heading, rule_word, answer_word, rule_place, answer_place, decoded_rule, decoded, accepted}
 use Rattle.image.specs.Formed.{Checked, checked, RuleParts, heading_parts, rule_parts, answer_parts, decoded_formed}
 use Rattle.image.specs.Encode.{heading_word_of, rule_word_of, answer_word_of, rule_words, encoded, WritesBack}
-use Rattle.image.proofs.Questions.{rule_count}
-use Rattle.image.proofs.Written.{Nine, length-flat_map, get_or-flat_map, no_rule, no_answer, rules_nine, answer_there, answer_lacking}
+use Rattle.image.proofs.Questions.{rule_count, answer_count}
+use Rattle.image.proofs.Written.{Nine, length_nines, get_or_nines, no_rule, no_answer, rules_nine, answer_there, answer_lacking}
 
 -- the numbers that tell the screens of a good answer word are its fields
 screens_fields : (G c a b : ℕ) → c ≤ 2 → screen_good G (ltb 0 c) a ≡ true → screen_good G (ltb 1 c) b ≡ true → (count_of (screens_of c a b) ≡ c) × (first_screen (screens_of c a b) ≡ a) × (second_screen (screens_of c a b) ≡ b)
@@ -39,11 +39,8 @@ module _ (ws : List ℕ) (ok : accepted ws ≡ true) where
     parts : RuleParts (modes_in (heading ws)) (screens_in (heading ws)) (rule_word ws k)
     parts = rule_parts (modes_in (heading ws)) (screens_in (heading ws)) (rule_word ws k) (passed.rules k l).word
 
-    answer_number : length (decoded_rule ws k).answers ≡ answers_in (rule_word ws k)
-    answer_number = length-map-range_with_len (λ j. answer_of (answer_word ws k j)) 0 (answers_in (rule_word ws k))
-
     rule_rewritten : rule_word_of (decoded_rule ws k) ≡ rule_word ws k
-    rule_rewritten = omega (arith, parts.kind, parts.spare, answer_number)
+    rule_rewritten = omega (arith, parts.kind, parts.spare, answer_count ws k)
 
     answer_at_place : (j : ℕ) → j < answers_in (rule_word ws k) → get_or (decoded_rule ws k).answers j no_answer ≡ answer_of (answer_word ws k j)
     answer_at_place j m = get_or-map-range_with_len (λ i. answer_of (answer_word ws k i)) 0 (answers_in (rule_word ws k)) j j no_answer m (omega arith)
@@ -52,11 +49,11 @@ module _ (ws : List ℕ) (ok : accepted ws ≡ true) where
     answers_rewritten j m =
         ⊎_elim
         (λ used.
-        answer_there (decoded_rule ws k) j (omega (arith, answer_number))
+        answer_there (decoded_rule ws k) j (omega (arith, answer_count ws k))
         ∙ ap answer_word_of (answer_at_place j used)
         ∙ answer_rewritten (modes_in (heading ws)) (screens_in (heading ws)) (answer_word ws k j) (((passed.rules k l).answers j m).used used))
         (λ unused.
-        answer_lacking (decoded_rule ws k) j (omega (arith, answer_number)) m
+        answer_lacking (decoded_rule ws k) j (omega (arith, answer_count ws k)) m
         ∙ sym (((passed.rules k l).answers j m).unused unused))
         (cases_lt j (answers_in (rule_word ws k)))
 
@@ -71,7 +68,7 @@ module _ (ws : List ℕ) (ok : accepted ws ≡ true) where
   nines = rules_nine (decoded ws) (decoded_formed ws ok)
 
   length_rewritten : length (encoded (decoded ws)) ≡ length ws
-  length_rewritten = omega (arith, length-flat_map rule_words (decoded ws).rules nines, rule_count ws, passed.len)
+  length_rewritten = omega (arith, length_nines rule_words (decoded ws).rules nines, rule_count ws, passed.len)
 
   word_rewritten : (i : ℕ) → i < length (encoded (decoded ws)) → get_or (encoded (decoded ws)) i 0 ≡ get_or ws i 0
   word_rewritten zero m = heading_rewritten
@@ -82,7 +79,7 @@ module _ (ws : List ℕ) (ok : accepted ws ≡ true) where
       let place : i ≡ 9 * (i / 9) + i % 9 = omega arith in
       let rest : i % 9 < 9 = omega arith in
       ap (λ (n : ℕ). get_or (flat_map rule_words (decoded ws).rules) n 0) place
-      ∙ get_or-flat_map rule_words (decoded ws).rules (i / 9) (i % 9) no_rule nines inside rest
+      ∙ get_or_nines rule_words (decoded ws).rules (i / 9) (i % 9) no_rule nines inside rest
       ∙ ap (λ (r : Rule). get_or (rule_words r) (i % 9) 0) (get_or-map-range_with_len (decoded_rule ws) 0 (rules_in (heading ws)) (i / 9) (i / 9) no_rule within (omega arith))
       ∙ nine_rewritten (i / 9) within (i % 9) rest
       ∙ ap (λ (n : ℕ). get_or ws (suc n) 0) (sym place)

@@ -1,42 +1,17 @@
 -- The fields of a written word are what was written, and a good word is written by its fields.
-use Rattle.std.proofs.Common.{◌≡◌, ℕ, ◌<◌, ◌≤◌, true, eqb, ltb, leb, length, refl, ap, ◌∙◌, arith}
-use Rattle.std.proofs.lemmas.Bool.{and_from, eq-eqb, lt-ltb, le-leb}
+use Rattle.std.proofs.Common.{◌≡◌, ℕ, ◌<◌, ◌≤◌, true, ltb, length, refl, ap, ◌∙◌, arith}
+use Rattle.std.proofs.lemmas.Bool.{lt-ltb}
+use Rattle.std.proofs.lemmas.Bool.Decides.{nat_tests}
 use Rattle.rulebook.specs.declared.told.Answer.{Answer}
 use Rattle.rulebook.specs.declared.told.Screens.{Screens}
 use Rattle.rulebook.specs.declared.told.Screens.TheVariants.{Gone, One, Two}
 use Rattle.rulebook.specs.Book.{Rule, Book, ScreensFit, AnswerFits, RuleFits}
 use Rattle.rulebook.specs.Told.{count_of, first_screen, second_screen}
 use Rattle.image.specs.Layout.{kind_of, spare_in, modes_in, screens_in, rules_in, heading_good, mode_in, screen_in, key_in, answers_in, rule_good, count_in, first_in, second_in, screen_good, answer_good, screens_of, answer_of}
-use Rattle.image.specs.Formed.{HeadingParts, RuleParts, AnswerParts}
 use Rattle.image.specs.Encode.{heading_word_of, rule_word_of, answer_word_of, Holds}
 
 abbrev answer : ℕ → Screens → Answer
 answer m s = record { mode = m; screens = s }
-
--- a word whose parts are in bounds is good
-heading_good_lem : (w : ℕ) → HeadingParts w → heading_good w ≡ true
-heading_good_lem w h =
-    and_from (eqb (kind_of w) 1) _ (eq-eqb (kind_of w) 1 h.kind)
-    (and_from (leb 1 (modes_in w)) _ (le-leb 1 (modes_in w) h.some_mode)
-    (and_from (leb (modes_in w) 60) _ (le-leb (modes_in w) 60 h.few_modes)
-    (and_from (leb 1 (screens_in w)) _ (le-leb 1 (screens_in w) h.some_screen)
-    (and_from (leb (screens_in w) 128) _ (le-leb (screens_in w) 128 h.few_screens) (le-leb (rules_in w) 1024 h.few_rules)))))
-
-rule_good_lem : (P G w : ℕ) → RuleParts P G w → rule_good P G w ≡ true
-rule_good_lem P G w h =
-    and_from (eqb (kind_of w) 2) _ (eq-eqb (kind_of w) 2 h.kind)
-    (and_from (eqb (spare_in w) 0) _ (eq-eqb (spare_in w) 0 h.spare)
-    (and_from (ltb (mode_in w) P) _ (lt-ltb (mode_in w) P h.mode)
-    (and_from (ltb (screen_in w) G) _ (lt-ltb (screen_in w) G h.screen)
-    (and_from (leb 1 (answers_in w)) _ (le-leb 1 (answers_in w) h.some) (le-leb (answers_in w) 8 h.few)))))
-
-answer_good_lem : (P G w : ℕ) → AnswerParts P G w → answer_good P G w ≡ true
-answer_good_lem P G w h =
-    and_from (eqb (kind_of w) 3) _ (eq-eqb (kind_of w) 3 h.kind)
-    (and_from (eqb (spare_in w) 0) _ (eq-eqb (spare_in w) 0 h.spare)
-    (and_from (ltb (mode_in w) P) _ (lt-ltb (mode_in w) P h.mode)
-    (and_from (leb (count_in w) 2) _ (le-leb (count_in w) 2 h.count)
-    (and_from (screen_good G (ltb 0 (count_in w)) (first_in w)) _ h.first h.second))))
 
 -- the fields of a written heading
 pub record HeadingFields (b : Book) : Type 0 where
@@ -56,15 +31,7 @@ pub heading_written : (b : Book) → Holds 1024 b → heading_good (heading_word
 heading_written b h =
     let f = heading_fields b h in
     let formed = h.formed in
-    heading_good_lem (heading_word_of b)
-    (record {
-      kind = f.kind;
-      some_mode = omega (arith, f.modes, formed.some_mode);
-      few_modes = omega (arith, f.modes, formed.few_modes);
-      some_screen = omega (arith, f.screens, formed.some_screen);
-      few_screens = omega (arith, f.screens, formed.few_screens);
-      few_rules = omega (arith, f.rules, h.few);
-    })
+    grind (arith, nat_tests)
 
 -- the fields of a written rule word
 pub record RuleFields (r : Rule) : Type 0 where
@@ -87,15 +54,7 @@ module _ (P G : ℕ) (few_modes : P ≤ 60) (few_screens : G ≤ 128) where
   pub rule_written : (r : Rule) → RuleFits P G r → rule_good P G (rule_word_of r) ≡ true
   rule_written r h =
       let f = rule_fields r h in
-      rule_good_lem P G (rule_word_of r)
-      (record {
-        kind = f.kind;
-        spare = f.spare;
-        mode = omega (arith, f.mode, h.mode);
-        screen = omega (arith, f.screen, h.screen);
-        some = omega (arith, f.answers, h.some);
-        few = omega (arith, f.answers, h.few);
-      })
+      grind (arith, nat_tests)
 
   -- the numbers of an answer's screens are small
   screens_small : (s : Screens) → ScreensFit G s → (count_of s ≤ 2) × (first_screen s < 256) × (second_screen s < 256)
@@ -109,15 +68,10 @@ module _ (P G : ℕ) (few_modes : P ≤ 60) (few_screens : G ≤ 128) where
   screens_told (One a) = refl
   screens_told (Two a b) = refl
 
-  first_good : (s : Screens) → ScreensFit G s → screen_good G (ltb 0 (count_of s)) (first_screen s) ≡ true
-  first_good Gone h = refl
-  first_good (One a) h = lt-ltb a G h
-  first_good (Two a b) h = lt-ltb a G h.0
-
-  second_good : (s : Screens) → ScreensFit G s → screen_good G (ltb 1 (count_of s)) (second_screen s) ≡ true
-  second_good Gone h = refl
-  second_good (One a) h = refl
-  second_good (Two a b) h = lt-ltb b G h.1
+  screens_good : (s : Screens) → ScreensFit G s → (screen_good G (ltb 0 (count_of s)) (first_screen s) ≡ true) × (screen_good G (ltb 1 (count_of s)) (second_screen s) ≡ true)
+  screens_good Gone h = (refl, refl)
+  screens_good (One a) h = (lt-ltb a G h, refl)
+  screens_good (Two a b) h = (lt-ltb a G h.0, lt-ltb b G h.1)
 
   -- the fields of a written answer word
   record AnswerFields (a : Answer) : Type 0 where
@@ -132,27 +86,19 @@ module _ (P G : ℕ) (few_modes : P ≤ 60) (few_screens : G ≤ 128) where
   answer_fields a h =
       let m = h.mode in
       let small = screens_small a.screens h.screens in
-      record {
-        kind = omega (arith, small.0, small.1, small.2);
-        spare = omega (arith, small.0, small.1, small.2);
-        mode = omega (arith, small.0, small.1, small.2);
-        count = omega (arith, small.0, small.1, small.2);
-        first = omega (arith, small.0, small.1, small.2);
-        second = omega (arith, small.0, small.1, small.2);
-      }
+      let count = small.0 in
+      let first = small.1 in
+      let second = small.2 in
+      record { kind = omega arith; spare = omega arith; mode = omega arith; count = omega arith; first = omega arith; second = omega arith }
 
   pub answer_written : (a : Answer) → AnswerFits P G a → answer_good P G (answer_word_of a) ≡ true
   answer_written a h =
       let f = answer_fields a h in
-      answer_good_lem P G (answer_word_of a)
-      (record {
-        kind = f.kind;
-        spare = f.spare;
-        mode = omega (arith, f.mode, h.mode);
-        count = omega (arith, f.count, (screens_small a.screens h.screens).0);
-        first = rw (f.count, f.first) (first_good a.screens h.screens);
-        second = rw (f.count, f.second) (second_good a.screens h.screens);
-      })
+      let few = (screens_small a.screens h.screens).0 in
+      let good = screens_good a.screens h.screens in
+      let first : screen_good G (ltb 0 (count_in (answer_word_of a))) (first_in (answer_word_of a)) ≡ true = rw (f.count, f.first) good.0 in
+      let second : screen_good G (ltb 1 (count_in (answer_word_of a))) (second_in (answer_word_of a)) ≡ true = rw (f.count, f.second) good.1 in
+      grind (arith, nat_tests)
 
   pub answer_read_back : (a : Answer) → AnswerFits P G a → answer_of (answer_word_of a) ≡ a
   answer_read_back a h =

@@ -1,18 +1,19 @@
 -- A written book is accepted and read back.
-use Rattle.std.proofs.Common.{◌≡◌, ℕ, zero, suc, ◌+◌, ◌-◌, ◌*◌, ◌<◌, ◌≤◌, Bool, true, cond, eqb, ltb, List, [], ◌∷◌, ◌++◌, map, length, get_or, replicate, Some, None, Ok, Option, sym, refl, ap, ◌∙◌, ⊎_elim, add-zero, zero-add, arith}
+use Rattle.std.proofs.Common.{◌≡◌, ℕ, suc, ◌+◌, ◌-◌, ◌*◌, ◌<◌, ◌≤◌, true, List, [], ◌∷◌, map, length, get_or, take, replicate, None, Ok, sym, refl, ap, ◌∙◌, ⊎_elim, arith}
 use Rattle.std.specs.List.{range_with_len, flat_map, AllByRecursion}
-use Rattle.std.proofs.lemmas.List.{length-append, length-map, length-replicate, get_or_append_left, get_or-append_right, get_or-append-add, get_or-replicate, get_or-map}
-use Rattle.std.proofs.ByRecursion.{All-get_or, All-weaker}
+use Rattle.std.proofs.lemmas.List.{length-append, length-take, length-map, length-replicate, get_or_append_left, get_or-append_right, get_or-replicate, get_or-map}
+use Rattle.std.proofs.ByRecursion.{All-get_or, All-take, All-weaker}
+use Rattle.std.proofs.lemmas.List.Concat.{get_or-flat_map}
 use Rattle.std.proofs.lemmas.List.FromFn.{fill_by_all}
-use Rattle.std.proofs.lemmas.Bool.{cases_lt, cond-true, cond-false, lt-ltb, le-ltb, eq-eqb, ne_eqb}
+use Rattle.std.proofs.lemmas.Bool.{cases_lt}
+use Rattle.std.proofs.lemmas.Bool.Decides.{nat_tests}
 use Rattle.rulebook.specs.declared.told.Answer.{Answer}
 use Rattle.rulebook.specs.declared.told.Screens.TheVariants.{Gone}
 use Rattle.rulebook.specs.Book.{Rule, Book, AnswerFits, RuleFits, WellFormed}
-use Rattle.image.specs.Layout.{modes_in, screens_in, rules_in, key_in, mode_in, screen_in, answers_in, heading_good, rule_good, answer_good, answer_of}
-use Rattle.image.specs.Plan.{rule_word, answer_word, rule_place, answer_place, decoded_rule, decoded, or_else, first_some, answer_fault, answers_fault, rule_fault, plan_fault, outcome, unless, refusal_of}
+use Rattle.image.specs.Layout.{modes_in, screens_in, rules_in, key_in, mode_in, screen_in, answers_in, rule_good, answer_good, answer_of}
+use Rattle.image.specs.Plan.{rule_word, answer_word, rule_place, answer_place, decoded_rule, decoded, answer_fault, answers_fault, rule_fault, plan_fault, outcome}
 use Rattle.image.specs.Encode.{heading_word_of, rule_word_of, answer_word_of, rule_words, encoded, Holds, ReadsBack}
-use Rattle.image.specs.declared.refusal.Refusal.{Refusal}
-use Rattle.image.specs.declared.refusal.Refusal.TheVariants.{BadHeading, BadRule, BadAnswer}
+use Rattle.image.proofs.Faults.{none_in}
 use Rattle.image.proofs.Words.{HeadingFields, RuleFields, heading_fields, heading_written, rule_fields, rule_written, answer_written, answer_read_back}
 
 -- lists of nine, one after another
@@ -20,31 +21,15 @@ module _ {X : Type 0} (f : X → List ℕ) where
   abbrev pub Nine : X → Type 0
   Nine x = length (f x) ≡ 9
 
-  pub length-flat_map : (xs : List X) → AllByRecursion Nine xs → length (flat_map f xs) ≡ 9 * length xs
-  length-flat_map [] h = refl
-  length-flat_map (x ∷ xs) h = length-append (f x) (flat_map f xs) ∙ omega (arith, h.0, length-flat_map xs h.1)
+  pub length_nines : (xs : List X) → AllByRecursion Nine xs → length (flat_map f xs) ≡ 9 * length xs
+  length_nines [] h = refl
+  length_nines (x ∷ xs) h = length-append (f x) (flat_map f xs) ∙ omega (arith, h.0, length_nines xs h.1)
 
-  pub get_or-flat_map : (xs : List X) (k i : ℕ) (d : X) → AllByRecursion Nine xs → k < length xs → i < 9 → get_or (flat_map f xs) (9 * k + i) 0 ≡ get_or (f (get_or xs k d)) i 0
-  get_or-flat_map [] k i d h l m = absurd (omega arith)
-  get_or-flat_map (x ∷ xs) zero i d h l m =
-      let here : i < length (f x) = omega (arith, h.0) in
-      let place : 9 * 0 + i ≡ i = omega arith in
-      ap (λ (n : ℕ). get_or (f x ++ flat_map f xs) n 0) place ∙ get_or_append_left (f x) (flat_map f xs) 0 i here
-  get_or-flat_map (x ∷ xs) (suc k) i d h l m =
-      let place : 9 * suc k + i ≡ length (f x) + (9 * k + i) = omega (arith, h.0) in
-      ap (λ (n : ℕ). get_or (f x ++ flat_map f xs) n 0) place ∙ get_or-append-add (f x) (flat_map f xs) (9 * k + i) 0 ∙ get_or-flat_map xs k i d h.1 (omega arith) m
-
--- nothing among n of f, from i on
-none_all : {R : Type 0} (f : ℕ → Option R) (i n : ℕ) → ((k : ℕ) → k < n → f (i + k) ≡ None) → first_some f i n ≡ None
-unfolding first_some
-none_all f i zero h = refl
-none_all {R} f i (suc n) h =
-    let here : f i ≡ None = rw add-zero at (h 0 (omega arith)) in
-    let later : first_some f (i + 1) n ≡ None = none_all f (i + 1) n (λ k l. let place : i + 1 + k ≡ i + suc k = omega arith in ap f place ∙ h (suc k) (omega arith)) in
-    ap (λ (o : Option R). or_else o (first_some f (i + 1) n)) here ∙ later
-
-none_each : {R : Type 0} (f : ℕ → Option R) (n : ℕ) → ((k : ℕ) → k < n → f k ≡ None) → first_some f 0 n ≡ None
-none_each f n h = none_all f 0 n (λ k l. rw zero-add (h k l))
+  pub get_or_nines : (xs : List X) (k i : ℕ) (d : X) → AllByRecursion Nine xs → k < length xs → i < 9 → get_or (flat_map f xs) (9 * k + i) 0 ≡ get_or (f (get_or xs k d)) i 0
+  get_or_nines xs k i d h l m =
+      let inside : i < length (f (get_or xs k d)) = omega (arith, All-get_or Nine xs k d l h) in
+      let place : 9 * k + i ≡ length (flat_map f (take k xs)) + i = omega (arith, length_nines (take k xs) (All-take Nine k xs h), length-take k xs) in
+      ap (λ (n : ℕ). get_or (flat_map f xs) n 0) place ∙ get_or-flat_map f xs k i d 0 l inside
 
 abbrev rule_of : ℕ → ℕ → ℕ → List Answer → Rule
 rule_of key mode screen answers = record { key = key; mode = mode; screen = screen; answers = answers }
@@ -99,13 +84,13 @@ module _ (b : Book) (h : Holds 1024 b) where
   unfolding rule
   rule_word_lem k l =
       let place : rule_place k ≡ suc (9 * k + 0) = omega arith in
-      ap (λ (n : ℕ). get_or (encoded b) n 0) place ∙ get_or-flat_map rule_words b.rules k 0 no_rule nines l (omega arith)
+      ap (λ (n : ℕ). get_or (encoded b) n 0) place ∙ get_or_nines rule_words b.rules k 0 no_rule nines l (omega arith)
 
   answer_word_lem : (k j : ℕ) → k < length b.rules → j < 8 → answer_word (encoded b) k j ≡ get_or (rule_words (rule k)) (suc j) 0
   unfolding rule
   answer_word_lem k j l m =
       let place : answer_place k j ≡ suc (9 * k + suc j) = omega arith in
-      ap (λ (n : ℕ). get_or (encoded b) n 0) place ∙ get_or-flat_map rule_words b.rules k (suc j) no_rule nines l (omega arith)
+      ap (λ (n : ℕ). get_or (encoded b) n 0) place ∙ get_or_nines rule_words b.rules k (suc j) no_rule nines l (omega arith)
 
   module _ (k : ℕ) (l : k < length b.rules) where
     fields_of_rule : RuleFields (rule k)
@@ -157,40 +142,33 @@ module _ (b : Book) (h : Holds 1024 b) where
 
   answer_faultless : (k j : ℕ) → k < length b.rules → j < 8 → answer_fault (encoded b) k j ≡ None
   answer_faultless k j l m =
-      let n : ℕ = answers_in (rule_word (encoded b) k) in
-      let w : ℕ = answer_word (encoded b) k j in
-      let good : Bool = answer_good (modes_in (heading_word_of b)) (screens_in (heading_word_of b)) w in
       let number = answer_count k l in
-      let fine : cond (ltb j n) good (eqb w 0) ≡ true =
       ⊎_elim
       (λ here.
-      cond-true (ltb j n) good (eqb w 0) (lt-ltb j n here)
-      ∙ rw (fields.modes, fields.screens, used_word k l j (omega arith))
-      (answer_written b.modes b.screens formed.few_modes formed.few_screens (get_or (rule k).answers j no_answer) (answer_fits k l j (omega arith))))
-      (λ past.
-      cond-false (ltb j n) good (eqb w 0) (le-ltb j n past)
-      ∙ eq-eqb w 0 (answer_word_lem k j l m ∙ answer_lacking (rule k) j (omega arith) m))
-      (cases_lt j n) in
-      cond-true (cond (ltb j n) good (eqb w 0)) None (Some (BadAnswer (answer_place k j))) fine
+      let told : answer_good (modes_in (heading_word_of b)) (screens_in (heading_word_of b)) (answer_word (encoded b) k j) ≡ true =
+      rw (fields.modes, fields.screens, used_word k l j here)
+      (answer_written b.modes b.screens formed.few_modes formed.few_screens (get_or (rule k).answers j no_answer) (answer_fits k l j here)) in
+      grind (arith, nat_tests))
+      (λ past. let zeroed : answer_word (encoded b) k j ≡ 0 = answer_word_lem k j l m ∙ answer_lacking (rule k) j past m in grind (arith, nat_tests))
+      (cases_lt j (length (rule k).answers))
 
   rule_faultless : (k : ℕ) → k < length b.rules → rule_fault (encoded b) k ≡ None
   rule_faultless k l =
       let good : rule_good (modes_in (heading_word_of b)) (screens_in (heading_word_of b)) (rule_word (encoded b) k) ≡ true =
       rw (fields.modes, fields.screens, rule_word_lem k l) (rule_written b.modes b.screens formed.few_modes formed.few_screens (rule k) (fits k l)) in
-      cond-true _ (answers_fault (encoded b) k) (Some (BadRule (rule_place k))) good ∙ none_each (answer_fault (encoded b) k) 8 (λ j m. answer_faultless k j l m)
-
-  plan_faultless : plan_fault (encoded b) ≡ None
-  plan_faultless = none_each (rule_fault (encoded b)) (rules_in (heading_word_of b)) (λ k l. rule_faultless k (omega (arith, fields.rules)))
+      let answers : answers_fault (encoded b) k ≡ None = none_in (answer_fault (encoded b) k) 8 8 (omega arith) (λ j m. answer_faultless k j l m) in
+      grind arith
 
   book_accepted : outcome (encoded b) ≡ Ok (length b.rules)
   book_accepted =
-      let len : length (encoded b) ≡ 1 + 9 * rules_in (heading_word_of b) = omega (arith, fields.rules, length-flat_map rule_words b.rules nines) in
-      let refusal : refusal_of (encoded b) ≡ None =
-      cond-false (eqb (length (encoded b)) 0) _ _ (ne_eqb (length (encoded b)) 0 (λ e. omega arith))
-      ∙ cond-true (heading_good (heading_word_of b)) _ (Some BadHeading) (heading_written b h)
-      ∙ cond-true (eqb (length (encoded b)) (1 + 9 * rules_in (heading_word_of b))) (plan_fault (encoded b)) _ (eq-eqb (length (encoded b)) (1 + 9 * rules_in (heading_word_of b)) len)
-      ∙ plan_faultless in
-      ap (λ (o : Option Refusal). unless o (rules_in (heading_word_of b))) refusal ∙ ap (λ (n : ℕ). Ok n) fields.rules
+      let head = heading_written b h in
+      let len : length (encoded b) ≡ 1 + 9 * rules_in (heading_word_of b) = omega (arith, fields.rules, length_nines rule_words b.rules nines) in
+      let rules : plan_fault (encoded b) ≡ None =
+      none_in (rule_fault (encoded b)) (rules_in (heading_word_of b)) (length b.rules) (omega (arith, fields.rules)) (λ k l. rule_faultless k l) in
+      let count = fields.rules in
+      grind (arith, nat_tests)
 
-pub reads_back : ReadsBack 1024
-reads_back b h = (book_accepted b h, book_back b h)
+pub reads_back : (most : ℕ) → most ≤ 1024 → ReadsBack most
+reads_back most l b h =
+    let few : Holds 1024 b = record { formed = h.formed; few = omega (arith, h.few) } in
+    (book_accepted b few, book_back b few)

@@ -6,7 +6,7 @@ use Rattle.image.specs.declared.image.Image.{Image}
 
 -- the book that the image's words say
 abbrev pub book_in : Image → Book
-book_in i = decoded i.words.now
+book_in i = decoded i.plan.words.now
 
 -- the book of an image before any load: one mode, one screen, no rules
 abbrev pub blank : Book

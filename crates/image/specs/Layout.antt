@@ -2,6 +2,7 @@
 -- A word is good where it keeps to its layout and to the bounds of a book with P modes and G screens.
 use Rattle.std.specs.Prelude.{◌≡◌, ℕ, ◌/◌, ◌%◌, ◌^◌, Bool, true, false, cond, ◌&&◌, ◌==◌, nat_le, nat_lt, refl}
 use Rattle.rulebook.specs.declared.told.Answer.{Answer}
+use Rattle.rulebook.specs.declared.told.RuleHead.{RuleHead}
 use Rattle.rulebook.specs.declared.told.Screens.{Screens}
 use Rattle.rulebook.specs.declared.told.Screens.TheVariants.{Gone, One, Two}
 
@@ -44,6 +45,10 @@ key_in w = field w 16 6
 
 abbrev pub answers_in : ℕ → ℕ
 answers_in w = field w 22 4
+
+-- the rule that a rule word tells, without its answers
+abbrev pub head_of : ℕ → RuleHead
+head_of w = record { key = key_in w; mode = mode_in w; screen = screen_in w; answers = answers_in w }
 
 -- kind 2, mode below P, screen below G, 1 to 8 answers
 abbrev pub rule_good : ℕ → ℕ → ℕ → Bool

@@ -5,7 +5,6 @@ mod format;
 mod image;
 mod layout;
 mod parts;
-mod places;
 mod refusal;
 #[cfg(test)]
 mod tests;

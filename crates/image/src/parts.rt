@@ -2,7 +2,7 @@
 ghost use Rattle.std.specs.Prelude.{◌≡◌, take, drop};
 ghost use Rattle.image.specs.Plan.{image_length};
 
-use crate::layout::rules_in;
+use crate::layout::Heading;
 
 // The words of the plan's image, and the job words after them.
 pub fn split(words: &[u32]) -> (&[u32], &[u32])
@@ -19,5 +19,5 @@ fn image_length(words: &[u32]) -> usize
     let [heading, ..] = words else {
         return 0;
     };
-    words.len().min(1 + 9 * rules_in(*heading))
+    words.len().min(1 + 9 * Heading(*heading).rules())
 }

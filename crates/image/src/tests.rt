@@ -52,11 +52,9 @@ const PLAN: [u32; 37] = [
 
 // The number of rules of a plan, or the number and the place of its refusal.
 fn loaded(words: &[u32]) -> Result<usize, (u8, usize)> {
-    let mut image = Image::new();
-    match image.load(words) {
-        Ok(rules) => Ok(rules),
-        Err(refusal) => Err((refusal.number(), refusal.place())),
-    }
+    Image::new()
+        .load(words)
+        .map_err(|refusal| (refusal.number(), refusal.place()))
 }
 
 // A plan with P = 2, G = 3 and one rule, with these two words for the rule and its first answer.

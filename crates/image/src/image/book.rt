@@ -3,45 +3,35 @@ ghost use Rattle.image.specs.Formed.{decoded_formed};
 ghost use Rattle.image.specs.Held.{book_in};
 
 use crate::image::Image;
-use crate::layout::{answer_of, bits, byte, rules_in};
-use crate::places::{answer_word, rule_word};
 use rulebook::{Answer, RuleBook, RuleHead};
 
+#[tactic(auto, using(crate::proofs::Questions::questions))]
 impl<'a> RuleBook for Image<'a> {
     ghost meaning = { book_in };
 
-    ghost formed = { λ s. decoded_formed s.words.now s.valid };
+    ghost formed = { λ s. decoded_formed s.plan.words.now s.valid };
 
     fn modes(&self) -> u8 {
-        byte(self.words[0], 0)
+        self.plan.heading().modes()
     }
 
     fn screens(&self) -> u8 {
-        byte(self.words[0], 8)
+        self.plan.heading().screens()
     }
 
     fn rules(&self) -> usize {
-        rules_in(self.words[0])
+        self.plan.heading().rules()
     }
 
     fn rule(&self, k: usize) -> Option<RuleHead> {
-        if k >= self.rules() {
-            return None;
-        }
-        let word = rule_word(self.words, k);
-        Some(RuleHead {
-            key: bits(word, 16, 6) as u8,
-            mode: byte(word, 0),
-            screen: byte(word, 8),
-            answers: bits(word, 22, 4) as u8,
-        })
+        Some(self.plan.rule(k)?.head())
     }
 
     fn answer(&self, k: usize, j: usize) -> Option<Answer> {
-        let head = self.rule(k)?;
-        if j >= head.answers as usize {
+        let rule = self.plan.rule(k)?;
+        if j >= usize::from(rule.head().answers) {
             return None;
         }
-        Some(answer_of(answer_word(self.words, k, j)))
+        Some(Answer::from(rule.answer_word(j)))
     }
 }

@@ -1,14 +1,13 @@
 // Making an image, and loading words into it.
-ghost use Rattle.std.specs.Prelude.{◌≡◌, ◌+◌, ◌*◌, ◌<◌, true, length, is_ok, if◌then◌else◌, Ok};
+ghost use Rattle.std.specs.Prelude.{◌≡◌, ◌<◌, true, length, is_ok, if◌then◌else◌, Ok, Err, IfOk, IfErr};
 ghost use Rattle.rulebook.specs.Book.{Book};
 ghost use Rattle.image.specs.Encode.{encoded, Holds};
 ghost use Rattle.image.specs.Held.{book_in, blank};
-ghost use Rattle.image.specs.Layout.{rules_in};
-ghost use Rattle.image.specs.Plan.{heading, answer_place, answer_fault, answers_fault, rule_fault, plan_fault, outcome, decoded};
+ghost use Rattle.image.specs.Plan.{answer_fault, rule_fault, plan_fault, unless, outcome, decoded};
 
 use crate::image::Image;
-use crate::layout::{answer_good, bits, byte, heading_good, rule_good, rules_in};
-use crate::places::{answer_word, rule_word};
+use crate::image::plan::{Plan, RuleWords};
+use crate::layout::Heading;
 use crate::refusal::Refusal;
 
 // The heading of a plan with one mode, one screen and no rules.
@@ -16,108 +15,92 @@ static BLANK: [u32; 1] = [0x1000_0101];
 
 impl<'a> Image<'a> {
     // An image with one mode, one screen and no rules.
+    #[tactic(auto, unfolding(crate::specs::Plan::first_some))]
     pub fn new() -> Image<'a>
         ensures { book_in result ≡ blank }
     {
-        Image { words: &BLANK }
+        Image {
+            plan: Plan { words: &BLANK },
+        }
     }
 
     // Replaces what the image holds by the plan that these words are, and answers its number of rules. A refused load leaves the image as it was.
     // The words that are written for a book are accepted and mean that book, and no other words are accepted.
+    #[tactic(auto, using(crate::proofs::Written::reads_back, crate::proofs::Rewritten::writes_back))]
     pub fn load(&mut self, words: &'a [u32]) -> Result<usize, Refusal>
         ensures value { result ≡ outcome words.now }
-        ensures words { self.new.words.now ≡ (if is_ok result then words.now else self.old.words.now) }
+        ensures words { self.new.plan.words.now ≡ (if is_ok result then words.now else self.old.plan.words.now) }
         ensures meaning { book_in self.new ≡ (if is_ok result then decoded words.now else book_in self.old) }
         ensures reads { (b : Book) → Holds 1024 b → words.now ≡ encoded b → (result ≡ Ok (length b.rules)) × (book_in self.new ≡ b) }
         ensures writes { is_ok result ≡ true → encoded (book_in self.new) ≡ words.now }
     {
-        self.hold(words)
+        *self = Image::checked(words)?;
+        Ok(self.plan.heading().rules())
     }
 
-    // The same, by what the words say alone.
-    fn hold(&mut self, words: &'a [u32]) -> Result<usize, Refusal>
-        ensures value { result ≡ outcome words.now }
-        ensures words { self.new.words.now ≡ (if is_ok result then words.now else self.old.words.now) }
+    // The image of these words, or why they are none.
+    fn checked(words: &'a [u32]) -> Result<Image<'a>, Refusal>
+        ensures words { IfOk result (λ image. image.plan.words.now ≡ words.now) }
+        ensures refusal { IfErr result (λ refusal. outcome words.now ≡ Err refusal) }
     {
-        let rules = check(words)?;
-        self.words = words;
-        Ok(rules)
-    }
-}
-
-// What is wrong with the word of answer j of rule k, if anything.
-fn answer_fault(words: &[u32], k: usize, j: usize) -> Option<Refusal>
-    requires { answer_place k j < length words.now }
-    ensures { result ≡ answer_fault words.now k j }
-{
-    let word = answer_word(words, k, j);
-    let answers = bits(rule_word(words, k), 22, 4) as usize;
-    let good = if j < answers {
-        answer_good(byte(words[0], 0), byte(words[0], 8), word)
-    } else {
-        word == 0
-    };
-    if good {
-        None
-    } else {
-        Some(Refusal::BadAnswer(2 + 9 * k + j))
-    }
-}
-
-// What is wrong first in the eight answer words of rule k, if anything.
-fn answers_fault(words: &[u32], k: usize) -> Option<Refusal>
-    requires { answer_place k 7 < length words.now }
-    ensures { result ≡ answers_fault words.now k }
-{
-    for j in 0..8 {
-        if let Some(fault) = answer_fault(words, k, j) {
-            return Some(fault);
+        let [first, ..] = words else {
+            return Err(Refusal::NoWords);
+        };
+        let heading = Heading(*first);
+        if !heading.is_good() {
+            return Err(Refusal::BadHeading);
         }
-    }
-    None
-}
-
-// What is wrong first in the nine words of rule k, if anything.
-fn rule_fault(words: &[u32], k: usize) -> Option<Refusal>
-    requires { answer_place k 7 < length words.now }
-    ensures { result ≡ rule_fault words.now k }
-{
-    if !rule_good(byte(words[0], 0), byte(words[0], 8), rule_word(words, k)) {
-        return Some(Refusal::BadRule(1 + 9 * k));
-    }
-    answers_fault(words, k)
-}
-
-// What is wrong first after the heading, if anything.
-fn plan_fault(words: &[u32], rules: usize) -> Option<Refusal>
-    requires rules { rules ≡ rules_in (heading words.now) }
-    requires len { length words.now ≡ 1 + 9 * rules }
-    ensures { result ≡ plan_fault words.now }
-{
-    for k in 0..rules {
-        if let Some(fault) = rule_fault(words, k) {
-            return Some(fault);
+        if words.len() != 1 + 9 * heading.rules() {
+            return Err(Refusal::WrongLength(words.len()));
         }
+        let plan = Plan { words };
+        plan.check()?;
+        Ok(Image { plan })
     }
-    None
 }
 
-// The number of rules of a plan, or why the words are none.
-fn check(words: &[u32]) -> Result<usize, Refusal>
-    ensures { result ≡ outcome words.now }
-{
-    let Some(first) = words.first() else {
-        return Err(Refusal::NoWords);
-    };
-    if !heading_good(*first) {
-        return Err(Refusal::BadHeading);
+impl<'a> Plan<'a> {
+    // Fails at what is wrong first after the heading, if anything.
+    #[tactic(auto, using(crate::proofs::Faults::none_in))]
+    fn check(&self) -> Result<(), Refusal>
+        ensures { result ≡ unless (plan_fault self.now.words.now) tt }
+    {
+        for k in 0..self.heading().rules() {
+            RuleWords { plan: *self, k }.check()?;
+        }
+        Ok(())
     }
-    let rules = rules_in(*first);
-    if words.len() != 1 + 9 * rules {
-        return Err(Refusal::WrongLength(words.len()));
+}
+
+impl<'a> RuleWords<'a> {
+    // Fails at what is wrong first in the nine words, if anything.
+    #[tactic(auto, using(crate::proofs::Faults::none_in))]
+    fn check(&self) -> Result<(), Refusal>
+        ensures { result ≡ unless (rule_fault self.now.plan.words.now self.now.k) tt }
+    {
+        if !self.word().is_good(self.plan.heading()) {
+            return Err(Refusal::BadRule(self.place()));
+        }
+        for j in 0..8 {
+            self.check_answer(j)?;
+        }
+        Ok(())
     }
-    match plan_fault(words, rules) {
-        Some(fault) => Err(fault),
-        None => Ok(rules),
+
+    // Fails where the word of answer j is wrong.
+    fn check_answer(&self, j: usize) -> Result<(), Refusal>
+        requires { j < 8 }
+        ensures { result ≡ unless (answer_fault self.now.plan.words.now self.now.k j) tt }
+    {
+        let word = self.answer_word(j);
+        let good = if j < usize::from(self.head().answers) {
+            word.is_good(self.plan.heading())
+        } else {
+            word.0 == 0
+        };
+        if !good {
+            return Err(Refusal::BadAnswer(self.place() + 1 + j));
+        }
+        Ok(())
     }
 }
