@@ -11,7 +11,7 @@ use Rattle.allowance.specs.declared.allowance.Allowance.{Allowance}
 
 -- an image means the book in its words
 abbrev pub image_book : Ghosts Image
-image_book = record { meaning = book_in; formed = λ i. decoded_formed i.words.now i.valid }
+image_book = record { meaning = book_in; formed = λ i. decoded_formed i.plan.words.now i.valid }
 
 -- the book that the pile means
 abbrev pub pile_book : Allowance (Lock Image image_book) → Book
