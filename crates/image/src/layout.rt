@@ -21,7 +21,7 @@ fn byte(word: u32, at: u32) -> u8
     bits(word, at, 8) as u8
 }
 
-// The kind of a word.
+// The kind of a word: a number of the layout, held against one kind at a time and kept nowhere, so an enum of kinds would only be matched away again.
 fn kind(word: u32) -> u32
     ensures { result ≡ kind_of word }
 {

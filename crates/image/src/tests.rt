@@ -7,50 +7,18 @@ use std::test::Fail;
 // P = 2, G = 3, and four rules.
 const PLAN: [u32; 37] = [
     // heading
-    0x1004_0302,
+    0x10040302,
     // rule 0: key 1, mode 0, screen 0, answer (0: 1, 0)
-    0x2041_0000,
-    0x3000_0600,
-    0,
-    0,
-    0,
-    0,
-    0,
-    0,
-    0,
+    0x20410000, 0x30000600, 0, 0, 0, 0, 0, 0, 0,
     // rule 1: key 2, mode 0, screen 1, answer (0: none)
-    0x2042_0100,
-    0x3000_0000,
-    0,
-    0,
-    0,
-    0,
-    0,
-    0,
-    0,
+    0x20420100, 0x30000000, 0, 0, 0, 0, 0, 0, 0,
     // rule 2: key 3, mode 0, screen 1, answers (1: 2, 1) and (1: 2)
-    0x2083_0100,
-    0x3004_0A01,
-    0x3000_0901,
-    0,
-    0,
-    0,
-    0,
-    0,
-    0,
+    0x20830100, 0x30040A01, 0x30000901, 0, 0, 0, 0, 0, 0,
     // rule 3: key 4, mode 1, screen 2, answer (0: none)
-    0x2044_0201,
-    0x3000_0000,
-    0,
-    0,
-    0,
-    0,
-    0,
-    0,
-    0,
+    0x20440201, 0x30000000, 0, 0, 0, 0, 0, 0, 0,
 ];
 
-// The number of rules of a plan, or the number and the place of its refusal.
+// The number of rules of a plan, or the number and the place of its refusal, since that is what users are told of it.
 fn loaded(words: &[u32]) -> Result<usize, (u8, usize)> {
     Image::new()
         .load(words)

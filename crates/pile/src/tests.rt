@@ -7,7 +7,7 @@ use rulebook::{Answer, Key, RuleBook, RuleHead};
 use std::alloc::{AllocError, Global};
 use std::test::Fail;
 
-// P = 2, G = 3, and four rules.
+// P = 2, G = 3, and four rules. The tests of `image` have the same plan: what stands in the tests of one crate cannot be used in those of another.
 const PLAN: [u32; 37] = [
     // heading
     0x10040302,
@@ -88,7 +88,7 @@ fn plan(words: &[u32]) -> Image<'_> {
     image
 }
 
-// What a pile over the example plan answers to a setting, and how many rules it lists then.
+// What a pile over the example plan answers to a setting, a refusal by the number that users are told, and how many rules it lists then.
 fn set(heap: Global, key: Key, most: u8) -> Result<(Result<u8, u8>, u8, usize), AllocError> {
     let mut pile = over(heap, plan(&PLAN))?;
     let answer = pile.set(key, most).map_err(|refusal| refusal.number());

@@ -5,7 +5,7 @@ ghost use Rattle.rulebook.specs.Search.{first_of, First};
 use crate::told::Key;
 
 // A kind of record of which any two agree or do not.
-// It is not `PartialEq`: that would ask each kind of record for more, that agreeing is symmetric and transitive, which no search needs.
+// It is not `PartialEq`: that would ask each kind of record for more, that agreeing is symmetric and transitive, which no search needs. Each kind states its own sameness, so each has its own `impl`.
 pub trait Same {
     // Whether two records agree.
     ghost same: { Self → Self → Bool };
