@@ -1,13 +1,13 @@
 -- Books whose rules are picked by place out of another, and the proof that they are well formed.
 -- A rule book gives that proof with its meaning, so it stands here and not among the proofs.
-use Rattle.std.specs.Prelude.{◌≡◌, ℕ, zero, suc, ◌+◌, ◌-◌, ◌≤◌, Bool, true, false, cond, List, [], ◌∷◌, length, nat_le, refl}
+use Rattle.std.specs.Prelude.{◌≡◌, ℕ, zero, suc, ◌+◌, ◌-◌, ◌≤◌, true, List, [], ◌∷◌, length}
 use Rattle.std.proofs.Common.{arith}
 use Rattle.std.specs.Option.{option_to_list}
 use Rattle.std.specs.List.{AllByRecursion, slice_get}
 use Rattle.std.proofs.ByRecursion.{All-append, all_kept_by}
 use Rattle.std.proofs.lemmas.List.{length-append}
 use Rattle.std.proofs.lemmas.List.Sums.{length-filter, count_by-le-length}
-use Rattle.std.proofs.lemmas.Bool.{leb-true, false≢true}
+use Rattle.std.proofs.lemmas.Bool.Decides.{nat_tests}
 use Rattle.rulebook.specs.Book.{Book, RuleFits, WellFormed}
 use Rattle.lock.specs.Locked.{free, locked}
 use Rattle.lock.specs.Places.{rises_from, picks}
@@ -16,16 +16,9 @@ use Rattle.lock.specs.Places.{rises_from, picks}
 abbrev pub picked : List ℕ → Book → Book
 picked ps b = record { modes = b.modes; screens = b.screens; rules = picks ps b.rules }
 
--- the two parts of a test that holds of both, which std has of `&&` alone
-pub both : (a b : Bool) → cond a b false ≡ true → (a ≡ true) × (b ≡ true)
-both true b e = (refl, e)
-both false b e = absurd (false≢true e)
-
 -- the first place of a rising list is no lower than the list may begin, and the others rise from after it
 pub rises_parts : (i p : ℕ) (ps : List ℕ) → rises_from i (p ∷ ps) ≡ true → (i ≤ p) × (rises_from (p + 1) ps ≡ true)
-rises_parts i p ps e =
-    let parts = both (nat_le i p) (rises_from (p + 1) ps) e in
-    (leb-true i p parts.0, parts.1)
+rises_parts i p ps e = (grind (arith, nat_tests), grind (arith, nat_tests))
 
 module _ {X : Type 0} where
   -- what stands at one place of a list is one element, or nothing beyond its end

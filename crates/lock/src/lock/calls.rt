@@ -22,6 +22,7 @@ impl<B: RuleBook> Lock<B> {
         ensures lived { AlwaysLists B.RuleBook }
         ensures narrows { OnlyLeavesOut B.RuleBook }
     {
+        // Not by `?`, which would lose the book.
         let (Ok(keys), Ok(places)) = (Keys::new(heap), Places::new(heap, &below, &[])) else {
             return Err(AllocFailed { value: below });
         };
