@@ -6,17 +6,13 @@ use Rattle.std.proofs.lemmas.Bool.Decides.{nat_tests}
 use Rattle.rulebook.specs.Book.{Rule}
 use Rattle.allowance.specs.Allowed.{fits}
 use Rattle.allowance.specs.Laws.{AllowancesKeepFormed, has_key, RuleCount, AllowancesPassOn, FittingLasts}
-use Rattle.allowance.specs.Levels.{length-leveled, allowed_at_formed}
+use Rattle.allowance.specs.Levels.{length-leveled, allowed_formed}
 use Rattle.lock.specs.Locked.{free}
 use Rattle.allowance.specs.Moved.{rule_with}
-use Rattle.lock.specs.Places.{places_of}
 use Rattle.lock.proofs.LeftOut.{left_out_length, left_out_append, left_out_map, left_out_joined, left_out_kept}
-use Rattle.lock.proofs.Standing.{picks_places, places_rise}
 
 pub allowances_keep_formed : (limit : ℕ) → limit ≤ 60 → AllowancesKeepFormed limit
-allowances_keep_formed limit within key A b formed modes rules =
-    let fit : fits A b ≡ true = grind (arith, nat_tests) in
-    rw (picks_places (free (key ∷ [])) b.rules) at (allowed_at_formed (places_of (free (key ∷ [])) b.rules) key A b (places_rise (free (key ∷ [])) 0 b.rules) fit formed)
+allowances_keep_formed limit within key A b formed modes rules = let fit : fits A b ≡ true = grind (arith, nat_tests) in allowed_formed key A b fit formed
 
 -- a rule is free of one key where it has another
 free_of_one : (key : ℕ) (r : Rule) → free (key ∷ []) r ≡ not (has_key key r)

@@ -1,20 +1,19 @@
 -- The proof that an allowance that fits a well-formed book means a well-formed one.
 -- A rule book gives that proof with its meaning, so it stands here and not among the proofs.
-use Rattle.std.specs.Prelude.{◌≡◌, ℕ, zero, suc, ◌+◌, ◌*◌, ◌<◌, ◌≤◌, true, List, map, length, Some, None, Option}
+use Rattle.std.specs.Prelude.{◌≡◌, ℕ, zero, suc, ◌+◌, ◌*◌, ◌<◌, ◌≤◌, true, List, [], ◌∷◌, map, length, Some, None, Option}
 use Rattle.std.proofs.Common.{sym, ap, arith, add-one, mul-add, mul-one, mul-le-mul_left, suc-mul, zero-mul}
 use Rattle.std.specs.List.{range_with_len, flat_map, AllByRecursion}
-use Rattle.std.proofs.ByRecursion.{All-append, All-map, All-weaker}
+use Rattle.std.proofs.ByRecursion.{All-append, All-map, All-weaker, all_kept_by}
 use Rattle.std.proofs.lemmas.List.{length-map}
+use Rattle.std.proofs.lemmas.List.Sums.{length-filter, count_by-le-length}
 use Rattle.std.proofs.lemmas.Bool.{cond_both}
 use Rattle.std.proofs.lemmas.Bool.Decides.{nat_tests}
 use Rattle.std.proofs.lemmas.Grind.{common_steps}
 use Rattle.rulebook.specs.Book.{Book, Rule, AnswerFits, RuleFits, WellFormed}
 use Rattle.rulebook.specs.declared.told.Answer.{Answer}
-use Rattle.allowance.specs.Allowed.{leveled, allowed_at, fits, in_force}
-use Rattle.allowance.specs.Allowance.{under_at}
-use Rattle.lock.specs.Formed.{picks_few, picks_all}
+use Rattle.allowance.specs.Allowed.{leveled, allowed, fits, under, allowance}
+use Rattle.lock.specs.Locked.{free, locked}
 use Rattle.allowance.specs.Moved.{mode_with, answer_with, left_after, rule_with}
-use Rattle.lock.specs.Places.{rises_from, picks}
 use Rattle.allowance.specs.declared.setting.Setting.{Setting}
 
 -- the two bounds of a setting that fits
@@ -65,27 +64,29 @@ length-leveled counted A P first rules =
     let level : ℕ → List Rule = λ l. map (rule_with counted P l) rules in
     grind (arith, common_steps, length_levels level (length rules) 1 A (λ l. length-map rules (rule_with counted P l)))
 
-module _ (places : List ℕ) (key A : ℕ) (b : Book) (rises : rises_from 0 places ≡ true) (fit : fits A b ≡ true) (formed : WellFormed b) where
-  pub allowed_at_formed : WellFormed (allowed_at places key A b)
-  allowed_at_formed =
-      let P : ℕ = b.modes in
-      let G : ℕ = b.screens in
-      let n : ℕ = length b.rules in
-      let bounds = fits_parts A b fit in
-      let all = formed.rules in
-      record {
-        some_mode = omega (arith, mul-add P A 1, mul-one P, formed.some_mode);
-        few_modes = bounds.0;
-        some_screen = formed.some_screen;
-        few_screens = formed.few_screens;
-        few_rules = omega (arith, length-leveled key A P (picks places b.rules) b.rules, picks_few 0 places b.rules rises, bounds.1, suc-mul A n, ap (λ (k : ℕ). k * n) (add-one A));
-        rules = All-append (RuleFits (P * (A + 1)) G) (map (rule_with key P 0) (picks places b.rules)) (flat_map (λ l. map (rule_with key P l) b.rules) (range_with_len 1 A))
-            (level_fits P G A key 0 (omega arith) (picks places b.rules) (picks_all (RuleFits P G) places b.rules all))
-            (all_levels (λ l. map (rule_with key P l) b.rules) (RuleFits (P * (A + 1)) G) 1 A (λ l k. level_fits P G A key l (omega arith) b.rules all));
-      }
+-- A book in which a key can be pressed so many times is well formed where that fits a well-formed one.
+pub allowed_formed : (key A : ℕ) (b : Book) → fits A b ≡ true → WellFormed b → WellFormed (allowed key A b)
+allowed_formed key A b fit formed =
+    let P : ℕ = b.modes in
+    let G : ℕ = b.screens in
+    let n : ℕ = length b.rules in
+    let first : List Rule = (locked (key ∷ []) b).rules in
+    let bounds = fits_parts A b fit in
+    let all = formed.rules in
+    let few : length first ≤ n = omega (arith, length-filter (free (key ∷ [])) b.rules, count_by-le-length (free (key ∷ [])) b.rules) in
+    record {
+      some_mode = omega (arith, mul-add P A 1, mul-one P, formed.some_mode);
+      few_modes = bounds.0;
+      some_screen = formed.some_screen;
+      few_screens = formed.few_screens;
+      few_rules = omega (arith, length-leveled key A P first b.rules, few, bounds.1, suc-mul A n, ap (λ (k : ℕ). k * n) (add-one A));
+      rules = All-append (RuleFits (P * (A + 1)) G) (map (rule_with key P 0) first) (flat_map (λ l. map (rule_with key P l) b.rules) (range_with_len 1 A))
+          (level_fits P G A key 0 (omega arith) first (all_kept_by (free (key ∷ [])) (RuleFits P G) b.rules all))
+          (all_levels (λ l. map (rule_with key P l) b.rules) (RuleFits (P * (A + 1)) G) 1 A (λ l k. level_fits P G A key l (omega arith) b.rules all));
+    }
 
 -- an allowance means a well-formed book, whatever it was set to
-pub allowance_formed : (places : List ℕ) (s : Option Setting) (b : Book) → rises_from 0 places ≡ true → WellFormed b → WellFormed (under_at places (in_force s b) b)
-allowance_formed places None b rises formed = formed
-allowance_formed places (Some s) b rises formed =
-    cond_both (fits s.most b) (Some s) None (λ o. WellFormed (under_at places o b)) (λ e. allowed_at_formed places s.key s.most b rises e formed) (λ e. formed)
+pub allowance_formed : (s : Option Setting) (b : Book) → WellFormed b → WellFormed (allowance s b)
+allowance_formed None b formed = formed
+allowance_formed (Some s) b formed =
+    cond_both (fits s.most b) (Some s) None (λ o. WellFormed (under o b)) (λ e. allowed_formed s.key s.most b e formed) (λ e. formed)

@@ -1,5 +1,6 @@
 use Rattle.std.proofs.Common.{ℕ, length, vec_items, suc-mul, arith}
 use Rattle.lock.specs.Formed.{picks_few}
+use Rattle.allowance.proofs.Kept.{first_rules}
 use Rattle.allowance.specs.Levels.{fits_parts, length-leveled}
 use Rattle.allowance.proofs.allowance.levels.LevelsRuleBook.rules.Goals as goal
 
@@ -11,4 +12,4 @@ overflow_add-result g c =
     grind (arith, picks_few 0 (vec_items l.first.now.list) b.rules l.first.now.rises, suc-mul A (length b.rules), (fits_parts A b l.fit).1)
 
 pub returns : goal.returns
-returns g c = grind (arith, length-leveled)
+returns g c = grind (arith, length-leveled, first_rules c.args.self.now)
