@@ -11,8 +11,11 @@ use Rattle.std.proofs.lemmas.Bool.Decides.{nat_tests}
 use Rattle.std.proofs.lemmas.Grind.{common_steps}
 use Rattle.rulebook.specs.Book.{Book, Rule, AnswerFits, RuleFits, WellFormed}
 use Rattle.rulebook.specs.declared.told.Answer.{Answer}
-use Rattle.allowance.specs.Allowed.{leveled, allowed, fits, under, allowance}
+use Rattle.allowance.specs.Allowance.{under_at}
+use Rattle.allowance.specs.Allowed.{leveled, allowed, allowed_at, fits, in_force, under, allowance}
+use Rattle.lock.specs.Formed.{picks_few, picks_all}
 use Rattle.lock.specs.Locked.{free, locked}
+use Rattle.lock.specs.Places.{rises_from, picks}
 use Rattle.allowance.specs.Moved.{mode_with, answer_with, left_after, rule_with}
 use Rattle.allowance.specs.declared.setting.Setting.{Setting}
 
@@ -64,29 +67,47 @@ length-leveled counted A P first rules =
     let level : ℕ → List Rule = λ l. map (rule_with counted P l) rules in
     grind (arith, common_steps, length_levels level (length rules) 1 A (λ l. length-map rules (rule_with counted P l)))
 
--- A book in which a key can be pressed so many times is well formed where that fits a well-formed one.
-pub allowed_formed : (key A : ℕ) (b : Book) → fits A b ≡ true → WellFormed b → WellFormed (allowed key A b)
-allowed_formed key A b fit formed =
-    let P : ℕ = b.modes in
-    let G : ℕ = b.screens in
-    let n : ℕ = length b.rules in
-    let first : List Rule = (locked (key ∷ []) b).rules in
-    let bounds = fits_parts A b fit in
-    let all = formed.rules in
-    let few : length first ≤ n = omega (arith, length-filter (free (key ∷ [])) b.rules, count_by-le-length (free (key ∷ [])) b.rules) in
-    record {
-      some_mode = omega (arith, mul-add P A 1, mul-one P, formed.some_mode);
-      few_modes = bounds.0;
-      some_screen = formed.some_screen;
-      few_screens = formed.few_screens;
-      few_rules = omega (arith, length-leveled key A P first b.rules, few, bounds.1, suc-mul A n, ap (λ (k : ℕ). k * n) (add-one A));
-      rules = All-append (RuleFits (P * (A + 1)) G) (map (rule_with key P 0) first) (flat_map (λ l. map (rule_with key P l) b.rules) (range_with_len 1 A))
-          (level_fits P G A key 0 (omega arith) first (all_kept_by (free (key ∷ [])) (RuleFits P G) b.rules all))
-          (all_levels (λ l. map (rule_with key P l) b.rules) (RuleFits (P * (A + 1)) G) 1 A (λ l k. level_fits P G A key l (omega arith) b.rules all));
-    }
+module _ (key A : ℕ) (b : Book) (fit : fits A b ≡ true) (formed : WellFormed b) where
+  -- the levels over some of the rules of a book
+  leveled_formed :
+      (first : List Rule) → length first ≤ length b.rules → AllByRecursion (RuleFits b.modes b.screens) first
+      → WellFormed (record { modes = b.modes * (A + 1); screens = b.screens; rules = leveled key A b.modes first b.rules })
+  leveled_formed first few each =
+      let P : ℕ = b.modes in
+      let G : ℕ = b.screens in
+      let n : ℕ = length b.rules in
+      let bounds = fits_parts A b fit in
+      record {
+        some_mode = omega (arith, mul-add P A 1, mul-one P, formed.some_mode);
+        few_modes = bounds.0;
+        some_screen = formed.some_screen;
+        few_screens = formed.few_screens;
+        few_rules = omega (arith, length-leveled key A P first b.rules, few, bounds.1, suc-mul A n, ap (λ (k : ℕ). k * n) (add-one A));
+        rules = All-append (RuleFits (P * (A + 1)) G) (map (rule_with key P 0) first) (flat_map (λ l. map (rule_with key P l) b.rules) (range_with_len 1 A))
+            (level_fits P G A key 0 (omega arith) first each)
+            (all_levels (λ l. map (rule_with key P l) b.rules) (RuleFits (P * (A + 1)) G) 1 A (λ l k. level_fits P G A key l (omega arith) b.rules formed.rules));
+      }
+
+  -- A book in which a key can be pressed so many times is well formed where that fits a well-formed one.
+  pub allowed_formed : WellFormed (allowed key A b)
+  allowed_formed =
+      leveled_formed (locked (key ∷ []) b).rules
+      (omega (arith, length-filter (free (key ∷ [])) b.rules, count_by-le-length (free (key ∷ [])) b.rules))
+      (all_kept_by (free (key ∷ [])) (RuleFits b.modes b.screens) b.rules formed.rules)
+
+  -- The same with any rising places of the rules that are listed where none is left.
+  pub allowed_at_formed : (places : List ℕ) → rises_from 0 places ≡ true → WellFormed (allowed_at places key A b)
+  allowed_at_formed places rises =
+      leveled_formed (picks places b.rules) (omega (arith, picks_few 0 places b.rules rises)) (picks_all (RuleFits b.modes b.screens) places b.rules formed.rules)
 
 -- an allowance means a well-formed book, whatever it was set to
 pub allowance_formed : (s : Option Setting) (b : Book) → WellFormed b → WellFormed (allowance s b)
 allowance_formed None b formed = formed
 allowance_formed (Some s) b formed =
     cond_both (fits s.most b) (Some s) None (λ o. WellFormed (under o b)) (λ e. allowed_formed s.key s.most b e formed) (λ e. formed)
+
+-- and so is the book that any rising places tell of it
+pub under_at_formed : (places : List ℕ) (s : Option Setting) (b : Book) → rises_from 0 places ≡ true → WellFormed b → WellFormed (under_at places (in_force s b) b)
+under_at_formed places None b rises formed = formed
+under_at_formed places (Some s) b rises formed =
+    cond_both (fits s.most b) (Some s) None (λ o. WellFormed (under_at places o b)) (λ e. allowed_at_formed s.key s.most b e formed places rises) (λ e. formed)

@@ -47,6 +47,18 @@ module _ {X : Type 0} where
   picks_all P [] xs all = tt
   picks_all P (p ∷ ps) xs all = All-append P (option_to_list (slice_get xs p)) (picks ps xs) (all_at P xs p all) (picks_all P ps xs all)
 
+-- rising places pick a well-formed book out of a well-formed one
+pub picked_formed : (ps : List ℕ) (b : Book) → rises_from 0 ps ≡ true → WellFormed b → WellFormed (picked ps b)
+picked_formed ps b e formed =
+    record {
+      some_mode = formed.some_mode;
+      few_modes = formed.few_modes;
+      some_screen = formed.some_screen;
+      few_screens = formed.few_screens;
+      few_rules = omega (arith, picks_few 0 ps b.rules e, formed.few_rules);
+      rules = picks_all (RuleFits b.modes b.screens) ps b.rules formed.rules;
+    }
+
 -- A lock over a well-formed book means a well-formed one.
 pub locked_formed : (keys : List ℕ) (b : Book) → WellFormed b → WellFormed (locked keys b)
 locked_formed keys b formed =
