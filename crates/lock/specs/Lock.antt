@@ -1,5 +1,5 @@
 -- A lock by its parts: the keys that are locked in it, the book below, and the book that it means.
-use Rattle.std.specs.Prelude.{ℕ, List, vec_items}
+use Rattle.std.specs.Prelude.{ℕ, List}
 use Rattle.rulebook.specs.Book.{Book}
 use Rattle.rulebook.specs.declared.book.RuleBook.{Ghosts}
 use Rattle.lock.specs.Locked.{locked}
@@ -9,7 +9,7 @@ use Rattle.lock.specs.declared.lock.Lock.{Lock}
 module _ {B : Type 0} {m : Ghosts B} where
   -- the keys that are locked, in the order in which they were locked
   abbrev pub keys_of : Lock B m → List ℕ
-  keys_of s = vec_items s.keys.list
+  keys_of s = s.keys.list.items
 
   -- the book that a lock would mean with these keys locked
   abbrev pub lock_under : Lock B m → List ℕ → Book

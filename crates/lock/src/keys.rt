@@ -1,26 +1,25 @@
-// The keys that are locked in one lock: up to 16, with their room taken at the start.
+// The keys that are locked in one lock: up to 16, which lie in the lock itself.
 ghost use Rattle.std.specs.Prelude.{◌≡◌, ◌<◌, ◌≤◌, false, [], length, is_ok, IfOk, vec_len, vec_capacity, OnOk};
 ghost use Rattle.lock.specs.Locked.{lock_answer, keys_after};
 
 use crate::laws::MOST_KEYS;
 use crate::refusal::LockRefusal;
+use arrayvec::ArrayVec;
 use rulebook::{Key, first_place};
-use std::alloc::{AllocError, Global};
 
 #[derive(Drop)]
 pub(crate) struct Keys {
-    list: Vec<Key>,
-    ghost few: { vec_len list ≤ 16 },
-    ghost room: { 16 ≤ vec_capacity list },
+    list: ArrayVec<Key, MOST_KEYS>,
 }
 
 impl Keys {
     // No key.
-    pub(crate) fn new(heap: Global) -> Result<Keys, AllocError>
-        ensures { IfOk result (λ s. s.list.items ≡ []) }
+    pub(crate) fn new() -> Keys
+        ensures { result.list.items ≡ [] }
     {
-        let list = Vec::with_capacity(heap, MOST_KEYS)?;
-        Ok(Keys { list })
+        Keys {
+            list: ArrayVec::new(),
+        }
     }
 
     pub(crate) fn as_slice(&self) -> &[Key]
@@ -44,7 +43,7 @@ impl Keys {
         if self.list.len() >= MOST_KEYS {
             return Err(LockRefusal::Full);
         }
-        self.list.push_reserved(key);
+        self.list.push(key);
         Ok(self.list.len())
     }
 }

@@ -23,12 +23,12 @@ impl<B: RuleBook> Lock<B> {
         ensures narrows { OnlyLeavesOut B.RuleBook }
     {
         // Not by `?`, which would lose the book.
-        let (Ok(keys), Ok(places)) = (Keys::new(heap), Places::new(heap, &below, &[])) else {
+        let Ok(places) = Places::new(heap, &below, &[]) else {
             return Err(AllocFailed { value: below });
         };
         Ok(Lock {
             below,
-            keys,
+            keys: Keys::new(),
             places,
         })
     }
