@@ -65,6 +65,7 @@ impl<'a, B: RuleBook> fmt::Display for Line<'a, B> {
             "rule {k}: key {}, mode {}, screen {}, answers",
             head.key, head.mode, head.screen
         )?;
+        // A `for`, since a loop over a chain that asks the book (`map_while`, `filter_map`) gets no proof.
         for j in 0..usize::from(head.answers) {
             if let Some(answer) = book.answer(k, j) {
                 write!(f, " {}", Shown(answer))?;

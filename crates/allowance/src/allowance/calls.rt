@@ -21,7 +21,7 @@ impl<B: RuleBook> Allowance<B> {
         ensures lists { AlwaysLists B.RuleBook }
         ensures lived { AlwaysAllows B.RuleBook }
     {
-        // By `map_err` the closure would take the book where there is no error too.
+        // By `map_err` a closure would hold the book, which asks `B: Drop` of callers.
         let Ok(first) = Places::new(heap, &below, &[]) else {
             return Err(AllocFailed { value: below });
         };
