@@ -1,11 +1,12 @@
 -- The places that an allowance keeps pick the rules that are not of the counted key.
-use Rattle.std.proofs.Common.{◌≡◌, ℕ, ◌+◌, ◌*◌, List, [], ◌∷◌, Some, None, Option, refl, ap, ◌∙◌, vec_items}
+use Rattle.std.proofs.Common.{◌≡◌, ℕ, ◌+◌, ◌*◌, List, [], ◌∷◌, Some, None, Option, refl, ap, ◌∙◌, vec_items, length}
 use Rattle.std.specs.Option.{IfSome}
 use Rattle.std.proofs.lemmas.Bool.{cond_both}
 use Rattle.rulebook.specs.Book.{Book, Rule}
 use Rattle.rulebook.specs.declared.book.RuleBook.{Ghosts}
 use Rattle.lock.specs.Locked.{free, locked}
 use Rattle.lock.specs.Places.{picks, places_of}
+use Rattle.lock.proofs.Standing.{length-places}
 use Rattle.lock.proofs.Listing.{book_of}
 use Rattle.lock.proofs.Standing.{picks_places}
 use Rattle.allowance.specs.Allowance.{under_at}
@@ -29,3 +30,7 @@ under_by_places places (Some s) b h = cond_both (fits s.most b) (Some s) None (�
 -- the levels of an allowance list those rules where none is left
 pub first_rules : {B : Type 0} {m : Ghosts B} (l : Levels B m) → picks (vec_items l.first.now.list) (m.meaning l.below.now).rules ≡ (locked (l.setting.key ∷ []) (m.meaning l.below.now)).rules
 first_rules {B} {m} l = picks_first (vec_items l.first.now.list) l.setting.key (m.meaning l.below.now) l.lists
+
+-- and so many of them
+pub first_count : {B : Type 0} {m : Ghosts B} (l : Levels B m) → length (vec_items l.first.now.list) ≡ length (locked (l.setting.key ∷ []) (m.meaning l.below.now)).rules
+first_count {B} {m} l = ap length l.lists ∙ length-places (free (l.setting.key ∷ [])) 0 (m.meaning l.below.now).rules

@@ -14,6 +14,7 @@ pub mod calls;
 mod levels;
 
 // Where it is set, `first` are the places of the rules below that are listed where none is left: those that are not of the counted key.
+// They stand beside the setting and not in it: their room is taken when the allowance is made, set or not.
 #[derive(Drop)]
 pub struct Allowance<B: RuleBook> {
     below: B,

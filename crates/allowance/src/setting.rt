@@ -38,8 +38,8 @@ impl Setting {
     pub(crate) fn fits<B: RuleBook>(&self, book: &B) -> bool
         ensures { result ≡ fits self.now.most (B.meaning book.now) }
     {
-        let levels = self.most as usize + 1;
-        book.modes() as usize * levels <= 60 && levels * book.rules() <= 65_535
+        let levels = usize::from(self.most) + 1;
+        usize::from(book.modes()) * levels <= 60 && levels * book.rules() <= 65_535
     }
 
     // How many are left after a press of a key.

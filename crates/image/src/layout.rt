@@ -116,7 +116,7 @@ impl AnswerWord {
         byte(self.0, 0)
     }
 
-    // The number of the answer's screens.
+    // The number of the answer's screens. A number, since the layout has room for 3, which is no count of screens.
     fn count(self) -> u32
         ensures { result ≡ count_in self.0 }
     {
@@ -150,7 +150,7 @@ impl AnswerWord {
     }
 }
 
-// A screen field of an answer word: below the limit where the screen is there, else 0.
+// A screen field of an answer word: below the limit where the screen is there, else 0. Not an `Option`, which would leave no absent field to hold against 0.
 fn screen_good(limit: u8, present: bool, screen: u8) -> bool
     ensures { result ≡ screen_good limit present screen }
 {

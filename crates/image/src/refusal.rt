@@ -30,13 +30,12 @@ impl Refusal {
         }
     }
 
-    // The number of the word at fault, or the length of the words where that is at fault.
+    // The number of the word at fault, or the length of the words where that is at fault: what users are told beside the number.
     pub fn place(&self) -> usize
         ensures { result ≡ place_of self.now }
     {
         match self {
-            Refusal::NoWords => 0,
-            Refusal::BadHeading => 0,
+            Refusal::NoWords | Refusal::BadHeading => 0,
             Refusal::WrongLength(length) => *length,
             Refusal::BadRule(place) => *place,
             Refusal::BadAnswer(place) => *place,

@@ -29,7 +29,7 @@ fn show_plan(heap: Global, words: &[u32]) -> Result<String, AllocError>
     }
 }
 
-// The line that tells a refused load.
+// The line that tells a refused load. One `format!` of two numbers, round which a `Display` would only be a wrapping.
 fn refusal_line(heap: Global, refusal: Refusal) -> Result<String, AllocError>
     ensures { IfOk result (λ t. string_bytes t ≡ refusal_line refusal) }
 {

@@ -1,5 +1,5 @@
 // The keys that are locked in one lock: up to 16, which lie in the lock itself.
-ghost use Rattle.std.specs.Prelude.{◌≡◌, ◌<◌, ◌≤◌, false, [], length, is_ok, IfOk, vec_len, vec_capacity, OnOk};
+ghost use Rattle.std.specs.Prelude.{◌≡◌, false, [], is_ok};
 ghost use Rattle.lock.specs.Locked.{lock_answer, keys_after};
 
 use crate::laws::MOST_KEYS;

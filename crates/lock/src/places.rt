@@ -17,6 +17,7 @@ pub struct Places {
     ghost room: { 65535 ≤ vec_capacity list },
 }
 
+// A book and keys come one by one, as callers are promised.
 impl Places {
     // The places of the rules of `book` whose key is not among `keys`.
     #[tactic(auto, using(crate::proofs::Listing::locked_none))]
@@ -47,7 +48,7 @@ impl Places {
     }
 
     // How many places there are.
-    pub(crate) fn len(&self) -> usize
+    pub fn len(&self) -> usize
         ensures { result ≡ length self.now.list.items }
     {
         self.list.len()

@@ -36,7 +36,7 @@ pub struct RuleHead {
 }
 
 // An answer in plain numbers: its mode, how many screens it has, and two screens, 0 where absent.
-// The count stands beside the screens because these four numbers are what users are told; within the program an answer has its `Screens`.
+// The count stands beside the screens because callers are promised these four numbers; within the program an answer has its `Screens`.
 #[derive(Clone, Copy)]
 pub struct ToldAnswer {
     pub mode: Mode,
@@ -46,7 +46,7 @@ pub struct ToldAnswer {
 }
 
 impl Answer {
-    // The same answer in plain numbers. A method and no `From`, since callers ask an answer for these numbers by that word.
+    // The same answer in plain numbers. A method and no `From`, since callers are promised it by this name.
     pub fn told(&self) -> ToldAnswer
         ensures { result ≡ told_of self.now }
     {

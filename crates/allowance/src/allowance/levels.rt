@@ -50,7 +50,7 @@ impl<B: RuleBook> RuleBook for Levels<'_, B> {
     }
 
     fn rules(&self) -> usize {
-        self.first.count(self.below) + self.setting.most as usize * self.below.rules()
+        self.first.len() + self.setting.most as usize * self.below.rules()
     }
 
     fn rule(&self, k: usize) -> Option<RuleHead> {
@@ -88,7 +88,7 @@ impl<B: RuleBook> Levels<'_, B> {
     fn find(&self, k: usize) -> Option<Origin>
         ensures { Comes self.now.setting (B.meaning self.now.below.now) k result }
     {
-        let first = self.first.count(self.below);
+        let first = self.first.len();
         let Some(above) = k.checked_sub(first) else {
             return self.first.find(k).map(|place| Origin { left: 0, place });
         };

@@ -65,6 +65,7 @@ impl<'a> Plan<'a> {
     fn check(&self) -> Result<(), Refusal>
         ensures { result ≡ unless (plan_fault self.now.words.now) tt }
     {
+        // By their numbers, not as groups by `as_chunks`: a fault is defined, and a refusal told, by where a word stands.
         for k in 0..self.heading().rules() {
             RuleWords { plan: *self, k }.check()?;
         }
@@ -81,6 +82,7 @@ impl<'a> RuleWords<'a> {
         if !self.word().is_good(self.plan.heading()) {
             return Err(Refusal::BadRule(self.place()));
         }
+        // By their numbers, for the same reason.
         for j in 0..8 {
             self.check_answer(j)?;
         }
