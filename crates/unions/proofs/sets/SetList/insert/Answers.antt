@@ -1,6 +1,7 @@
-use Rattle.std.proofs.Common.{◌≡◌, vec_items, sym, subst, arith, rules}
+use Rattle.std.proofs.Common.{Ok, ◌≡◌, vec_items, sym, subst, arith, rules}
 use Rattle.std.specs.List.{insert}
-use Rattle.std.specs.List.Sorted.{IsStrictlyIncreasing}
+use Rattle.std.specs.List.Sorted.{IsStrictlyIncreasing, IsBinarySearchResult}
+use Rattle.std.specs.Ordering.{nat_cmp}
 use Rattle.std.proofs.lemmas.Result.{MatchResult-from_err}
 use Rattle.unions.specs.Working.{Adds}
 use Rattle.unions.proofs.Rising.{gap_from_search, in_from_search, adds_same, adds_insert, increasing_insert, crowded_from_full}
@@ -8,7 +9,8 @@ use Rattle.unions.proofs.sets.SetList.insert.Goals as goal
 
 pub returns-in_default-clause-added : goal.returns-in_default-clause-added
 returns-in_default-clause-added c =
-    let there = in_from_search c.args.set c.in_default.field-0 c.deref.ensures.value c.self.invariant.climbs c.in_default.ensures.position in
+    let found : IsBinarySearchResult (λ y. nat_cmp y c.args.set) c.deref.result.now (Ok c.in_default.field-0) = search rules in
+    let there = in_from_search c.args.set c.in_default.field-0 c.deref.ensures.value c.self.invariant.climbs found in
     rw (← c.self.view_is) (adds_same (vec_items c.self.inside.list) c.args.set there)
 
 pub returns-in_err-insert-clause-added : goal.returns-in_err-insert-clause-added
