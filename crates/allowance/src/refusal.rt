@@ -11,7 +11,7 @@ pub enum SettingRefusal {
 }
 
 impl SettingRefusal {
-    // The number by which users know the refusal. It is what they are told, and no form of the refusal within the program.
+    // The number by which users know the refusal: what they are told, and no form of it within the program. Callers are promised it by this name.
     pub fn number(&self) -> u8
         ensures { result ≡ number_of self.now }
     {

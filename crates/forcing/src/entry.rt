@@ -19,7 +19,7 @@ pub struct Earned {
     pub rule: usize,
 }
 
-// Entries agree in state, screen and set.
+// Entries agree in state, screen and set: their own sameness, stated in this crate's words, so the `impl` is their own too.
 impl Same for Entry {
     ghost same = { same_entry };
 

@@ -4,7 +4,7 @@ use rulebook::{Answer, RuleBook, RuleHead, Screens};
 use std::alloc::{AllocError, Global};
 use std::test::Fail;
 
-// P = 2, G = 3, and four rules.
+// P = 2, G = 3, and four rules. The tests of `pile` have the same plan: what stands in the tests of one crate cannot be used in those of another.
 const PLAN: [u32; 37] = [
     // heading
     0x10040302,

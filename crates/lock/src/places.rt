@@ -9,7 +9,7 @@ ghost use Rattle.lock.specs.Places.{places_of, rises_from, picks, stands_at, fre
 use rulebook::{Key, RuleBook, first_place};
 use std::alloc::{AllocError, Global};
 
-// Seen by its fields and not by a model: the proofs of the layers over it read from them that the places rise.
+// Seen by its fields and not by a model: a lock's proof reads from them that the places rise, and the `lists` of both layers name them.
 #[derive(Drop)]
 pub struct Places {
     list: Vec<usize>,

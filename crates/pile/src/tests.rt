@@ -88,7 +88,7 @@ fn plan(words: &[u32]) -> Image<'_> {
     image
 }
 
-// What a pile over the example plan answers to a setting, a refusal by the number that users are told, and how many rules it lists then.
+// What a pile over the example plan answers to a setting, a refusal by the number that users are told, and how many modes and rules it has then.
 fn set(heap: Global, key: Key, most: u8) -> Result<(Result<u8, u8>, u8, usize), AllocError> {
     let mut pile = over(heap, plan(&PLAN))?;
     let answer = pile.set(key, most).map_err(|refusal| refusal.number());

@@ -1,5 +1,5 @@
 // Why a call on a table was refused.
-// The number of a refusal is what users are told, and no form of it within the program. It is asked for by a method, since callers are promised it by this name.
+// The number of a refusal is what users are told, and no form of it within the program. Callers are promised it by this name.
 ghost use Rattle.std.specs.Prelude.{◌≡◌};
 ghost use Rattle.table.specs.Refusals.{give_number, mark_number, ask_number};
 

@@ -6,7 +6,7 @@ use states::StateSet;
 
 // `marks` are the states with an end mark. There is room for 128 given entries and 1,024 earned ones.
 // The two lists are a `Vec` each with room of its own, and not an `ArrayVec`, which would move 26 KiB with each table.
-// `settled` stands beside the earned entries, and not an `Option` round them: their room is taken once, so that settling never asks for memory, and an open table keeps it.
+// `settled` stands beside the earned entries, and not an `Option` round them: their room is taken once, so that settling is to ask for no memory, and an open table keeps it.
 #[derive(Drop)]
 pub struct Table {
     given: Vec<Entry>,
