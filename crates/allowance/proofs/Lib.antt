@@ -1,5 +1,3 @@
 pub mod AllowanceLaws
-pub mod Kept
 pub mod Lives
 pub mod Origins
-pub mod Same

@@ -12,7 +12,7 @@ use Rattle.std.proofs.lemmas.Grind.{common_steps}
 use Rattle.rulebook.specs.Book.{Book, Rule, AnswerFits, RuleFits, WellFormed}
 use Rattle.rulebook.specs.declared.told.Answer.{Answer}
 use Rattle.allowance.specs.Allowance.{under_at}
-use Rattle.allowance.specs.Allowed.{leveled, allowed, allowed_at, fits, in_force, under, allowance}
+use Rattle.allowance.specs.Allowed.{leveled, allowed, allowed_at, fits, in_force}
 use Rattle.lock.specs.Formed.{picks_few, picks_all}
 use Rattle.lock.specs.Locked.{free, locked}
 use Rattle.lock.specs.Places.{rises_from, picks}
@@ -24,8 +24,12 @@ pub fits_parts : (A : ℕ) (b : Book) → fits A b ≡ true → (b.modes * (A + 
 fits_parts A b e = (grind (arith, nat_tests), grind (arith, nat_tests))
 
 -- a mode of the book below with at most A left
-mode_fits : (P A l m : ℕ) → m < P → l ≤ A → mode_with P l m < P * (A + 1)
+pub mode_fits : (P A l m : ℕ) → m < P → l ≤ A → mode_with P l m < P * (A + 1)
 mode_fits P A l m h k = omega (arith, mul-add P A 1, mul-one P, mul-le-mul_left P k)
+
+-- a press leaves no more than there were
+pub left_no_more : (counted key l : ℕ) → left_after counted key l ≤ l
+left_no_more counted key l = grind (arith, nat_tests)
 
 module _ (P G A : ℕ) where
   answer_fits : (l : ℕ) → l ≤ A → (a : Answer) → AnswerFits P G a → AnswerFits (P * (A + 1)) G (answer_with P l a)
@@ -35,7 +39,7 @@ module _ (P G A : ℕ) where
   rule_fits counted l k r fit =
       let left : ℕ = left_after counted r.key l in
       let number = length-map r.answers (answer_with P left) in
-      let fewer : left ≤ A = grind (arith, nat_tests) in
+      let fewer : left ≤ A = omega (arith, left_no_more counted r.key l) in
       record {
         key = fit.key;
         mode = mode_fits P A l r.mode fit.mode k;
@@ -57,7 +61,7 @@ module _ {X : Type 0} (f : ℕ → List X) where
       All-append Q (f i) (flat_map f (range_with_len (i + 1) n)) (h i (omega arith)) (all_levels Q (i + 1) n (λ l k. h l (omega arith)))
 
   -- lists of one length, one after another
-  length_levels : (k i n : ℕ) → ((l : ℕ) → length (f l) ≡ k) → length (flat_map f (range_with_len i n)) ≡ n * k
+  pub length_levels : (k i n : ℕ) → ((l : ℕ) → length (f l) ≡ k) → length (flat_map f (range_with_len i n)) ≡ n * k
   length_levels k i zero h = sym (zero-mul k)
   length_levels k i (suc n) h = grind (arith, common_steps, suc-mul n k, h i, length_levels k (i + 1) n h)
 
@@ -101,13 +105,7 @@ module _ (key A : ℕ) (b : Book) (fit : fits A b ≡ true) (formed : WellFormed
       leveled_formed (picks places b.rules) (omega (arith, picks_few 0 places b.rules rises)) (picks_all (RuleFits b.modes b.screens) places b.rules formed.rules)
 
 -- an allowance means a well-formed book, whatever it was set to
-pub allowance_formed : (s : Option Setting) (b : Book) → WellFormed b → WellFormed (allowance s b)
-allowance_formed None b formed = formed
-allowance_formed (Some s) b formed =
-    cond_both (fits s.most b) (Some s) None (λ o. WellFormed (under o b)) (λ e. allowed_formed s.key s.most b e formed) (λ e. formed)
-
--- and so is the book that any rising places tell of it
-pub under_at_formed : (places : List ℕ) (s : Option Setting) (b : Book) → rises_from 0 places ≡ true → WellFormed b → WellFormed (under_at places (in_force s b) b)
-under_at_formed places None b rises formed = formed
-under_at_formed places (Some s) b rises formed =
+pub allowance_formed : (places : List ℕ) (s : Option Setting) (b : Book) → rises_from 0 places ≡ true → WellFormed b → WellFormed (under_at places (in_force s b) b)
+allowance_formed places None b rises formed = formed
+allowance_formed places (Some s) b rises formed =
     cond_both (fits s.most b) (Some s) None (λ o. WellFormed (under_at places o b)) (λ e. allowed_at_formed s.key s.most b e formed places rises) (λ e. formed)

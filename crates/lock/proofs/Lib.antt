@@ -2,5 +2,4 @@ pub mod LeftOut
 pub mod Listing
 pub mod Lives
 pub mod LockLaws
-pub mod Same
 pub mod Standing

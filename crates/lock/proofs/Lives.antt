@@ -1,44 +1,57 @@
--- A lock means the book below without the rules of its locked keys.
-use Rattle.std.proofs.Common.{◌≡◌, ℕ, List, [], ◌∷◌, ◌++◌, length, is_ok, vec_items, Result, sym, ap, ◌∙◌, subst, append-nil}
-use Rattle.std.proofs.lemmas.Bool.{cond_both}
-use Rattle.std.specs.List.{slice_get}
+-- Whatever was called, a lock means the book below without the rules of its locked keys.
+use Rattle.std.proofs.Common.{◌≡◌, ℕ, List, [], ◌∷◌, ◌++◌, is_ok, Result, sym, ap, ◌∙◌, subst, subst₂, ⊎_elim, append-nil}
+use Rattle.std.proofs.lemmas.Bool.{cases_Bool, cond_both}
 use Rattle.rulebook.specs.Book.{Book}
-use Rattle.rulebook.specs.declared.book.RuleBook.{Ghosts}
-use Rattle.lock.specs.Life.{AlwaysLists, OnlyLeavesOut}
+use Rattle.lock.specs.Life.{Made, Follows, AlwaysLists, OnlyLeavesOut}
+use Rattle.lock.specs.Life.Lived.{made, locks, follows}
 use Rattle.lock.specs.Lock.{keys_of, lock_book, lock_under}
-use Rattle.lock.specs.Locked.{free, locked, lock_answer, keys_after}
+use Rattle.lock.specs.Locked.{locked, lock_answer, keys_after}
 use Rattle.lock.specs.Locking.{Locks}
-use Rattle.lock.specs.Places.{stands_at}
 use Rattle.lock.specs.Narrower.{Narrower}
 use Rattle.lock.specs.declared.lock.Lock.{Lock}
 use Rattle.lock.specs.declared.refusal.LockRefusal.{LockRefusal}
-use Rattle.lock.proofs.Listing.{picked_locked, locked_none}
-use Rattle.lock.proofs.Standing.{length-places, nth_picks}
+use Rattle.lock.proofs.Listing.{locked_none}
 use Rattle.lock.proofs.LockLaws.{locks_narrow}
 
-module _ {B : Type 0} (m : Ghosts B) where
-  pub always_lists : AlwaysLists m
-  always_lists s = picked_locked (vec_items s.places.list) (keys_of s) (m.meaning s.below) s.lists
+module _ {B : Type 0} (m : B → Book) where
+  abbrev Lists : Lock B → Type 0
+  Lists s = lock_book m s ≡ locked (keys_of s) (m s.below)
 
-  -- a lock lists one rule for each place
-  pub listed : (s : Lock B m) → length (vec_items s.places.list) ≡ length (lock_book s).rules
-  listed s = ap length s.lists ∙ length-places (free (keys_of s)) 0 (m.meaning s.below).rules
-
-  -- its k-th rule stands at the k-th place
-  pub listed_at : (s : Lock B m) (k : ℕ) → slice_get (lock_book s).rules k ≡ stands_at (slice_get (vec_items s.places.list) k) (m.meaning s.below).rules
-  listed_at s k = ap (λ (b : Book). slice_get b.rules k) (sym (always_lists s)) ∙ nth_picks 0 (vec_items s.places.list) (m.meaning s.below).rules k s.places.rises
+  lists_made : (book : B) (s : Lock B) → Made m book s → Lists s
+  lists_made book s h =
+      h.meaning ∙ ap (λ (ks : List ℕ). locked ks (m book)) (sym h.keys) ∙ ap (λ (b : B). locked (keys_of s) (m b)) (sym h.below)
 
   -- what is below a lock means the same after a key was locked in it
-  pub same_below : (s : Lock B m) (key : ℕ) (r : Result ℕ LockRefusal) (t : Lock B m) → Locks keys_of lock_under lock_book s key r t → m.meaning s.below ≡ m.meaning t.below
-  same_below s key r t h = sym (locked_none (m.meaning s.below)) ∙ sym (h.under []) ∙ locked_none (m.meaning t.below)
+  pub same_below : (s : Lock B) (key : ℕ) (r : Result ℕ LockRefusal) (t : Lock B) → Locks keys_of (lock_under m) (lock_book m) s key r t → m s.below ≡ m t.below
+  same_below s key r t h = sym (locked_none (m s.below)) ∙ sym (h.under []) ∙ locked_none (m t.below)
+
+  lists_locked : (s : Lock B) (key : ℕ) (r : Result ℕ LockRefusal) (t : Lock B) → Lists s → Locks keys_of (lock_under m) (lock_book m) s key r t → Lists t
+  lists_locked s key r t before h =
+      ⊎_elim
+      (λ ok. h.meaning ok ∙ ap (locked (keys_of t)) (same_below s key r t h))
+      (λ refused. subst Lists (sym (h.same refused)) before)
+      (cases_Bool (is_ok r))
+
+  lists_followed : (s : Lock B) (r : Result ℕ LockRefusal) (t : Lock B) → Lists s → Follows m s r t → Lists t
+  lists_followed s r t before h =
+      ⊎_elim
+      (λ ok. h.meaning ok ∙ ap (λ (ks : List ℕ). locked ks (m t.below)) (sym h.keys))
+      (λ refused. subst Lists (sym (h.same refused)) before)
+      (cases_Bool (is_ok r))
+
+  pub always_lists : AlwaysLists m
+  always_lists u (made book s h) = lists_made book s h
+  always_lists u (locks s key r t l h) = lists_locked s key r t (always_lists s l) h
+  always_lists u (follows s r t l h) = lists_followed s r t (always_lists s l) h
 
   pub only_leaves_out : OnlyLeavesOut m
-  only_leaves_out s key r t h =
-      let b : Book = m.meaning s.below in
+  only_leaves_out s key r t l h =
+      let b : Book = m s.below in
       let keys : List ℕ = keys_of s in
-      let after : lock_book t ≡ locked (keys_after keys key) b =
-      ap (locked (keys_of t)) (sym (same_below s key r t h)) ∙ ap (λ (ks : List ℕ). locked ks b) h.keys in
+      let before : lock_book m s ≡ locked keys b = always_lists s l in
+      let after : lock_book m t ≡ locked (keys_after keys key) b =
+      always_lists t (locks s key r t l h) ∙ ap (locked (keys_of t)) (sym (same_below s key r t h)) ∙ ap (λ (ks : List ℕ). locked ks b) h.keys in
       let P : List ℕ → Type 0 = λ ks. Narrower (locked keys b) (locked ks b) in
       let more : Narrower (locked keys b) (locked (keys_after keys key) b) =
       cond_both (is_ok (lock_answer keys key)) (keys ++ key ∷ []) keys P (λ ok. locks_narrow keys (key ∷ []) b) (λ refused. subst P (append-nil keys) (locks_narrow keys [] b)) in
-      subst (Narrower (lock_book s)) (sym after) more
+      subst₂ Narrower (sym before) (sym after) more

@@ -1,16 +1,15 @@
 -- Laws of places: how they are gathered from a book, and what they pick out of it again.
-use Rattle.std.proofs.Common.{◌≡◌, ℕ, zero, suc, ◌+◌, ◌<◌, ◌≤◌, Bool, true, false, cond, ltb, List, [], ◌∷◌, ◌++◌, length, get_or, take, drop, Some, None, filter, Option, sym, refl, ap, ◌∙◌, add-one, arith}
+use Rattle.std.proofs.Common.{◌≡◌, ℕ, zero, suc, ◌+◌, ◌-◌, ◌<◌, ◌≤◌, Bool, true, false, cond, List, [], ◌∷◌, ◌++◌, length, get_or, take, drop, Some, None, filter, Option, sym, refl, ap, ◌∙◌, append_assoc, append-nil, add-one, arith}
 use Rattle.std.specs.Option.{option_to_list}
 use Rattle.std.specs.List.{slice_get}
-use Rattle.std.specs.List.Sorted.{IsNonDecreasingBy, IsPartitionPoint}
-use Rattle.std.proofs.lemmas.List.{length-append}
+use Rattle.std.proofs.lemmas.List.{length-append, take_more}
 use Rattle.std.proofs.lemmas.Option.{slice_get_cases, slice_get_past, gets}
 use Rattle.std.proofs.lemmas.Grind.{common_steps}
-use Rattle.std.proofs.lemmas.Bool.{cond-true, le-leb, ltb-true, ltb-false}
+use Rattle.std.proofs.lemmas.Bool.{cond-true, le-leb}
 use Rattle.rulebook.specs.Book.{Rule, head_in}
 use Rattle.lock.specs.Locked.{free}
 use Rattle.lock.specs.Places.{places_from, places_of, rises_from, picks, stands_at, free_in}
-use Rattle.lock.specs.Formed.{rises_parts, picks_few}
+use Rattle.lock.specs.Formed.{rises_parts}
 
 -- the places of one rule more: its own too, if its key is free
 pub places_more : (keys : List ℕ) (rules : List Rule) (i : ℕ) → places_of (free keys) (take (i + 1) rules) ≡ cond (free_in keys (head_in (slice_get rules i))) (places_of (free keys) (take i rules) ++ i ∷ []) (places_of (free keys) (take i rules))
@@ -45,14 +44,6 @@ rises_bound i (p ∷ ps) (suc k) d e h =
     let parts = rises_parts i p ps e in
     omega (arith, parts.0, rises_bound (p + 1) ps k d parts.1 (omega arith))
 
--- a rising list does not fall
-pub rises_sorted : (i : ℕ) (ps : List ℕ) → rises_from i ps ≡ true → IsNonDecreasingBy (λ p. p) ps
-rises_sorted i [] e j k d h l = absurd (omega arith)
-rises_sorted i (p ∷ ps) e zero zero d h l = omega arith
-rises_sorted i (p ∷ ps) e zero (suc k) d h l = omega (arith, rises_bound (p + 1) ps k d (rises_parts i p ps e).1 (omega arith))
-rises_sorted i (p ∷ ps) e (suc j) zero d h l = absurd (omega arith)
-rises_sorted i (p ∷ ps) e (suc j) (suc k) d h l = rises_sorted (p + 1) ps (rises_parts i p ps e).1 j k d (omega arith) (omega arith)
-
 module _ {X : Type 0} where
   -- gathered places rise
   pub places_rise : (p : X → Bool) (i : ℕ) (xs : List X) → rises_from i (places_from p i xs) ≡ true
@@ -64,15 +55,21 @@ module _ {X : Type 0} where
         | false ↦ rises_lower (i + 1) i later (omega arith) (places_rise p (i + 1) xs)
       ]
 
-  -- there is one place for each that passes the test
-  pub length-places : (p : X → Bool) (i : ℕ) (xs : List X) → length (places_from p i xs) ≡ length (filter p xs)
-  length-places p i [] = refl
-  length-places p i (x ∷ xs) =
-      let later : List ℕ = places_from p (i + 1) xs in
-      elim (p x) as (λ t. length (cond t (i ∷ later) later) ≡ length (cond t (x ∷ filter p xs) (filter p xs))) [
-        | true ↦ ap suc (length-places p (i + 1) xs)
-        | false ↦ length-places p (i + 1) xs
-      ]
+  -- gathered places and one after all that were looked at rise
+  pub places_rise_on : (p : X → Bool) (xs : List X) (i : ℕ) → rises_from 0 (places_of p (take i xs) ++ i ∷ []) ≡ true
+  places_rise_on p xs i = on 0 i xs i (omega arith)
+    where
+      on : (k j : ℕ) (xs : List X) (i : ℕ) → j ≡ k + i → rises_from k (places_from p k (take i xs) ++ j ∷ []) ≡ true
+      on k j [] zero e = rises_cons k j [] (omega arith) refl
+      on k j [] (suc i) e = rises_cons k j [] (omega arith) refl
+      on k j (x ∷ xs) zero e = rises_cons k j [] (omega arith) refl
+      on k j (x ∷ xs) (suc i) e =
+          let later : List ℕ = places_from p (k + 1) (take i xs) in
+          let rest : rises_from (k + 1) (later ++ j ∷ []) ≡ true = on (k + 1) j xs i (omega arith) in
+          elim (p x) as (λ t. rises_from k (cond t (k ∷ later) later ++ j ∷ []) ≡ true) [
+            | true ↦ rises_cons k k (later ++ j ∷ []) (omega arith) rest
+            | false ↦ rises_lower (k + 1) k (later ++ j ∷ []) (omega arith) rest
+          ]
 
   -- what stands first in what is left from i on stands at i
   nth_drop : (xs : List X) (i : ℕ) (y : X) (ys : List X) → drop i xs ≡ y ∷ ys → (slice_get xs i ≡ Some y) × (drop (suc i) xs ≡ ys)
@@ -137,18 +134,33 @@ module _ {X : Type 0} where
   one_there : (xs : List X) (p : ℕ) → p < length xs → length (option_to_list (slice_get xs p)) ≡ 1
   one_there xs p h = grind (arith, slice_get_cases)
 
-  -- the places before the end of a list are as many as they pick
-  pub count_picked : (i : ℕ) (ps : List ℕ) (xs : List X) (count : ℕ) → rises_from i ps ≡ true → count ≤ length ps → IsPartitionPoint (λ p. ltb p (length xs) ≡ true) (λ p. ltb p (length xs) ≡ false) ps count → count ≡ length (picks ps xs)
-  count_picked i [] xs count e h at = omega arith
-  count_picked i (p ∷ ps) xs zero e h at =
+  picks-append : (ps qs : List ℕ) (xs : List X) → picks (ps ++ qs) xs ≡ picks ps xs ++ picks qs xs
+  picks-append [] qs xs = refl
+  picks-append (p ∷ ps) qs xs = ap (λ (ys : List X). option_to_list (slice_get xs p) ++ ys) (picks-append ps qs xs) ∙ sym (append_assoc (option_to_list (slice_get xs p)) (picks ps xs) (picks qs xs))
+
+  -- a last place beyond the list picks nothing
+  pub count_less : (ps : List ℕ) (xs : List X) (n count d : ℕ) → 0 < count → count ≤ length ps → n ≡ length xs → n ≤ get_or ps (count - 1) d → length (picks (take (count - 1) ps) xs) ≡ length (picks (take count ps) xs)
+  count_less ps xs n count d some within e beyond =
+      let before : List ℕ = take (count - 1) ps in
+      let last : ℕ = get_or ps (count - 1) d in
+      let same : count - 1 + 1 ≡ count = omega arith in
+      let more : take count ps ≡ before ++ last ∷ [] = ap (λ (k : ℕ). take k ps) (sym same) ∙ take_more ps (count - 1) d (omega arith) in
+      let none : picks (last ∷ []) xs ≡ [] = ap (λ (o : Option X). option_to_list o ++ []) (slice_get_past xs last (omega arith)) in
+      sym (ap (λ (qs : List ℕ). length (picks qs xs)) more ∙ ap length (picks-append before (last ∷ []) xs ∙ ap (λ (ys : List X). picks before xs ++ ys) none ∙ append-nil (picks before xs)))
+
+  -- where the last place is within the list, each place picks one
+  all_there : (i : ℕ) (ps : List ℕ) (xs : List X) (k d : ℕ) → rises_from i ps ≡ true → k < length ps → get_or ps k d < length xs → length (picks (take (suc k) ps) xs) ≡ suc k
+  all_there i [] xs k d e h l = absurd (omega arith)
+  all_there i (p ∷ ps) xs zero d e h l = length-append (option_to_list (slice_get xs p)) [] ∙ omega (arith, one_there xs p l)
+  all_there i (p ∷ ps) xs (suc k) d e h l =
       let parts = rises_parts i p ps e in
-      let beyond = ltb-false p (length xs) (at.1 0 0 (omega arith) (omega arith)) in
-      omega (arith, picks_few p (p ∷ ps) xs (rises_cons p p ps (omega arith) parts.1), beyond)
-  count_picked i (p ∷ ps) xs (suc count) e h at =
-      let parts = rises_parts i p ps e in
-      let within = ltb-true p (length xs) (at.0 0 0 (omega arith) (omega arith)) in
-      let rest = count_picked (p + 1) ps xs count parts.1 (omega arith) (λ k d l m. at.0 (suc k) d (omega arith) (omega arith), λ k d l m. at.1 (suc k) d (omega arith) (omega arith)) in
-      omega (arith, length-append (option_to_list (slice_get xs p)) (picks ps xs), one_there xs p within, rest)
+      let lower : p < length xs = omega (arith, rises_bound (p + 1) ps k d parts.1 (omega arith)) in
+      length-append (option_to_list (slice_get xs p)) (picks (take (suc k) ps) xs) ∙ omega (arith, one_there xs p lower, all_there (p + 1) ps xs k d parts.1 (omega arith) l)
+
+  pub count_all : (ps : List ℕ) (xs : List X) (n count d : ℕ) → rises_from 0 ps ≡ true → 0 < count → count ≤ length ps → n ≡ length xs → get_or ps (count - 1) d < n → length (picks (take count ps) xs) ≡ count
+  count_all ps xs n count d e some within is here =
+      let same : suc (count - 1) ≡ count = omega arith in
+      ap (λ (k : ℕ). length (picks (take k ps) xs)) (sym same) ∙ all_there 0 ps xs (count - 1) d e (omega arith) (omega arith) ∙ same
 
 -- what `find` rests on
 pub ruleset found = (found_picks, common_steps, gets)

@@ -1,20 +1,15 @@
 // A lock: the book below without the rules whose key is locked.
-ghost use Rattle.std.specs.Prelude.{◌≡◌};
-ghost use Rattle.lock.specs.Locked.{free};
-ghost use Rattle.lock.specs.Places.{places_of};
-
 use crate::keys::Keys;
 use crate::places::Places;
-use rulebook::RuleBook;
 
 pub mod book;
 pub mod calls;
 
-// `places` are those of the rules below that are listed.
+// `places` are those of the rules below that are listed: the rules of unlocked keys.
+// That they are those is a theorem over the layer's life and no invariant of its type: it would ask for `B: RuleBook`, and a caller's own generic struct could then hold no allowance over a lock.
 #[derive(Drop)]
-pub struct Lock<B: RuleBook> {
+pub struct Lock<B> {
     below: B,
     keys: Keys,
     places: Places,
-    ghost lists: { places.list.items ≡ places_of (free keys.list.items) (B.meaning below).rules },
 }

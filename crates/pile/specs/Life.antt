@@ -14,16 +14,16 @@ use Rattle.pile.specs.Pile.{Pile, pile_book}
 
 -- The pile was made over a plan: no key is locked, and the allowance is not set.
 pub record PileMade (plan : Image) (p : Pile) : Type 0 where
-  pub low : LockMade plan p.below
-  pub high : AllowanceMade p.below p
+  pub low : LockMade book_in plan p.below
+  pub high : AllowanceMade (lock_book book_in) p.below p
 
 -- The piles that come of any calls over one plan: each step is what the contracts of the calls say.
 pub data PileLived (plan : Image) : Pile → Type 0 where
   made : (p : Pile) → PileMade plan p → PileLived plan p
-  sets : (p : Pile) (key A : ℕ) (r : Result ℕ SettingRefusal) (q : Pile) → PileLived plan p → Sets p key A r q → PileLived plan q
+  sets : (p : Pile) (key A : ℕ) (r : Result ℕ SettingRefusal) (q : Pile) → PileLived plan p → Sets (lock_book book_in) p key A r q → PileLived plan q
   locks :
-      (p : Pile) (key : ℕ) (r : Result ℕ LockRefusal) (q : Pile) → PileLived plan p → Locks keys_of lock_under lock_book p.below key r q.below
-      → Follows p r q → PileLived plan q
+      (p : Pile) (key : ℕ) (r : Result ℕ LockRefusal) (q : Pile) → PileLived plan p → Locks keys_of (lock_under book_in) (lock_book book_in) p.below key r q.below
+      → Follows (lock_book book_in) p r q → PileLived plan q
 
 -- Whatever was called, the pile means the plan without the rules of the locked keys, with the key counted down as the allowance is set, if it is.
 abbrev pub PileStands : Type 0

@@ -1,6 +1,6 @@
 // The layers on the example plan: what they answer and refuse, and whole piles held against a list that is worked out plainly.
 use crate::over;
-use allowance::SettingRefusal;
+use allowance::{Allowance, SettingRefusal};
 use image::Image;
 use lock::{Lock, LockRefusal, Lockable};
 use rulebook::{Answer, Key, RuleBook, RuleHead};
@@ -123,6 +123,22 @@ fn a_setting_replaces_another(rt: HostRuntime) -> Result<(), Fail> {
     assert_eq!(rt; pile.set(1, 0), Ok(2));
     assert_eq!(rt; pile.lock_below(3), Ok(1));
     assert_eq!(rt; pile.rules(), 2);
+    Ok(())
+}
+
+// A struct over any book: neither layer asks anything of the book to be named.
+#[derive(Drop)]
+struct Held<B> {
+    pile: Allowance<Lock<B>>,
+}
+
+#[test]
+fn a_pile_over_any_book_is_held(rt: HostRuntime) -> Result<(), Fail> {
+    let mut held = Held {
+        pile: over(rt.alloc(), plan(&PLAN))?,
+    };
+    assert_eq!(rt; held.pile.set(3, 1), Ok(4));
+    assert_eq!(rt; held.pile.rules(), 7);
     Ok(())
 }
 

@@ -7,9 +7,9 @@ use rulebook::{Answer, RuleBook, RuleHead};
 
 // Each question chooses by a `match`: tried as one function over a `&dyn RuleBook`, which gets no proof over a book below whose type is a parameter.
 impl<B: RuleBook> RuleBook for Allowance<B> {
-    ghost meaning = { allowance_book };
+    ghost meaning = { allowance_book B.RuleBook.meaning };
 
-    ghost formed = { λ s. allowance_formed s.setting (B.RuleBook.meaning s.below) (B.RuleBook.formed s.below) };
+    ghost formed = { λ s. allowance_formed s.first.list.items s.setting (B.RuleBook.meaning s.below) s.first.rises (B.RuleBook.formed s.below) };
 
     fn modes(&self) -> u8 {
         match self.levels() {

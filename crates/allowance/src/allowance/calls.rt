@@ -1,7 +1,7 @@
 // Making an allowance, setting it, and locking a key in a lock below it.
 ghost use Rattle.std.specs.Prelude.{◌≡◌, IfOk, IfErr};
 ghost use Rattle.allowance.specs.Allowed.{allowance};
-ghost use Rattle.allowance.specs.Life.{Made, Sets, Follows, AlwaysLists, AlwaysAllows};
+ghost use Rattle.allowance.specs.Life.{Made, Sets, Follows, AlwaysAllows};
 ghost use Rattle.lock.specs.Locking.{Locks};
 
 use crate::allowance::Allowance;
@@ -14,12 +14,11 @@ use std::alloc::{AllocFailed, Global};
 impl<B: RuleBook> Allowance<B> {
     // An allowance over this book, not set: it lists what the book lists. Where memory is wanting the book comes back.
     // Whatever is called then, an allowance means the book below it under its setting, and a setting that fitted goes on to fit.
-    #[tactic(auto, using(crate::proofs::Lives::always_lists, crate::proofs::Lives::always_allows))]
+    #[tactic(auto, using(crate::proofs::Lives::always_allows))]
     pub fn new(heap: Global, below: B) -> Result<Allowance<B>, AllocFailed<B>>
-        ensures made { IfOk result (λ s. Made below s) }
+        ensures made { IfOk result (λ s. Made B.meaning below s) }
         ensures refused { IfErr result (λ y. y.value ≡ below) }
-        ensures lists { AlwaysLists B.RuleBook }
-        ensures lived { AlwaysAllows B.RuleBook }
+        ensures lived { AlwaysAllows B.meaning }
     {
         // By `map_err` a closure would hold the book, which asks `B: Drop` of callers.
         let Ok(first) = Places::new(heap, &below, &[]) else {
@@ -34,7 +33,7 @@ impl<B: RuleBook> Allowance<B> {
 
     // Lets the key be pressed `most` times, in place of an earlier setting, and answers how many modes there are then. A refusal changes nothing.
     pub fn set(&mut self, key: Key, most: u8) -> Result<u8, SettingRefusal>
-        ensures { Sets self.old key most result self.new }
+        ensures { Sets B.meaning self.old key most result self.new }
     {
         let setting = Setting { key, most };
         let modes = setting.admit(&self.below)?;
@@ -48,7 +47,7 @@ impl<B: Lockable> Allowance<B> {
     // Locks a key in the lock below, and answers how many are locked there then. The setting stays, and the rules follow the book below. A refusal changes nothing.
     pub fn lock_below(&mut self, key: Key) -> Result<usize, LockRefusal>
         ensures below { Locks B.keys B.under B.RuleBook.meaning self.old.below key result self.new.below }
-        ensures follows { Follows self.old result self.new }
+        ensures follows { Follows B.RuleBook.meaning self.old result self.new }
     {
         let locked = self.below.lock(key)?;
         if let Some(setting) = self.setting {

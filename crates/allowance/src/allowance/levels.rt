@@ -1,11 +1,9 @@
 // The levels of an allowance: the rules below with none left, and then all of them with 1 left, with 2, and so on.
-ghost use Rattle.std.specs.Prelude.{◌≡◌, ◌<◌, ◌≤◌, true, [], ◌∷◌, MatchOption};
+ghost use Rattle.std.specs.Prelude.{◌≡◌, ◌<◌, ◌≤◌, true, MatchOption};
 ghost use Rattle.allowance.specs.Allowance.{allowance_book, Comes};
-ghost use Rattle.allowance.specs.Allowed.{allowed, fits};
-ghost use Rattle.allowance.specs.Levels.{allowed_formed};
+ghost use Rattle.allowance.specs.Allowed.{allowed_at, fits};
+ghost use Rattle.allowance.specs.Levels.{allowed_at_formed};
 ghost use Rattle.allowance.specs.Moved.{mode_with};
-ghost use Rattle.lock.specs.Locked.{free};
-ghost use Rattle.lock.specs.Places.{places_of};
 
 use crate::allowance::Allowance;
 use crate::setting::{Origin, Setting};
@@ -19,13 +17,12 @@ pub(super) struct Levels<'a, B: RuleBook> {
     first: &'a Places,
     setting: Setting,
     ghost fit: { fits setting.most (B.RuleBook.meaning below.now) ≡ true },
-    ghost lists: { first.now.list.items ≡ places_of (free (setting.key ∷ [])) (B.RuleBook.meaning below.now).rules },
 }
 
 impl<B: RuleBook> Allowance<B> {
     // The levels that count: none before any setting, or where it does not fit the book below.
     pub(super) fn levels(&self) -> Option<Levels<'_, B>>
-        ensures { MatchOption result (allowance_book self.now ≡ B.meaning self.now.below) (λ l. allowance_book self.now ≡ ⟦<Levels<'static, B> as RuleBook>⟧.meaning l) }
+        ensures { MatchOption result (allowance_book B.meaning self.now ≡ B.meaning self.now.below) (λ l. allowance_book B.meaning self.now ≡ ⟦<Levels<'static, B> as RuleBook>⟧.meaning l) }
     {
         let setting = self.setting.filter(|setting| setting.fits(&self.below))?;
         Some(Levels {
@@ -37,9 +34,9 @@ impl<B: RuleBook> Allowance<B> {
 }
 
 impl<B: RuleBook> RuleBook for Levels<'_, B> {
-    ghost meaning = { λ l. allowed l.setting.key l.setting.most (B.RuleBook.meaning l.below.now) };
+    ghost meaning = { λ l. allowed_at l.first.now.list.items l.setting.key l.setting.most (B.RuleBook.meaning l.below.now) };
 
-    ghost formed = { λ l. allowed_formed l.setting.key l.setting.most (B.RuleBook.meaning l.below.now) l.fit (B.RuleBook.formed l.below.now) };
+    ghost formed = { λ l. allowed_at_formed l.setting.key l.setting.most (B.RuleBook.meaning l.below.now) l.fit (B.RuleBook.formed l.below.now) l.first.now.list.items l.first.now.rises };
 
     fn modes(&self) -> u8 {
         self.below.modes() * (self.setting.most + 1)
@@ -50,7 +47,7 @@ impl<B: RuleBook> RuleBook for Levels<'_, B> {
     }
 
     fn rules(&self) -> usize {
-        self.first.len() + self.setting.most as usize * self.below.rules()
+        self.first.count(self.below) + self.setting.most as usize * self.below.rules()
     }
 
     fn rule(&self, k: usize) -> Option<RuleHead> {
@@ -86,9 +83,9 @@ impl<B: RuleBook> Levels<'_, B> {
 
     // Where rule `k` comes from.
     fn find(&self, k: usize) -> Option<Origin>
-        ensures { Comes self.now.setting (B.meaning self.now.below.now) k result }
+        ensures { Comes self.now.first.now.list.items self.now.setting (B.meaning self.now.below.now) k result }
     {
-        let first = self.first.len();
+        let first = self.first.count(self.below);
         let Some(above) = k.checked_sub(first) else {
             return self.first.find(k).map(|place| Origin { left: 0, place });
         };

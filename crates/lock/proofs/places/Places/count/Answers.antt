@@ -1,14 +1,17 @@
-use Rattle.std.proofs.Common.{ℕ, List, ltb, vec_items, rules}
-use Rattle.std.specs.List.Sorted.{IsNonDecreasingBy}
-use Rattle.std.proofs.lemmas.List.Sorted.{IsPartitionPoint-from_clause, IsPartitionedBy-ltb}
-use Rattle.lock.proofs.Standing.{count_picked, rises_sorted}
+use Rattle.std.proofs.Common.{List, vec_items, arith, sym, ◌∙◌}
+use Rattle.rulebook.specs.Book.{Rule}
+use Rattle.lock.proofs.Standing.{count_less, count_all}
 use Rattle.lock.proofs.places.Places.count.Goals as goal
 
-pub returns : goal.returns
-returns g c =
-    let places : List ℕ = vec_items c.args.self.now.list in
-    let beyond : ℕ = c.rules-rules.result in
-    let sorted : IsNonDecreasingBy (λ p. p) c.deref.result.now = rw c.deref.ensures.value (rises_sorted 0 places c.args.self.now.rises) in
-    let at =
-    IsPartitionPoint-from_clause (λ p. ltb p beyond) c.deref.result.now c.partition_point.result c.partition_point.ensures.partitioned (IsPartitionedBy-ltb (λ p. p) c.deref.result.now beyond sorted) (λ a r q k. search rules) in
-    count_picked 0 places (g.B.RuleBook.meaning c.args.book.now).rules c.partition_point.result c.args.self.now.rises (rw (← c.deref.ensures.value) c.partition_point.ensures.bound) (rw (← c.rules-rules.ensures, ← c.deref.ensures.value) at)
+pub loop-count-preserved : goal.loop-count-preserved
+loop-count-preserved g c =
+    let places = c.args.self.now.list in
+    let book : List Rule = (g.B.RuleBook.meaning c.args.book.now).rules in
+    (count_less (vec_items places) book c.rules-rules.result c.loop-count.count c.index.result.now c.loop-count-test.true (omega (arith, places.ok.0, c.loop-count.invariant.1)) c.rules-rules.ensures (omega (arith, c.index.ensures, c.if-index-rules.true)) ∙ c.loop-count.invariant.0, omega (arith, c.loop-count.invariant.1))
+
+pub returns-else-index-rules : goal.returns-else-index-rules
+returns-else-index-rules g c =
+    let places = c.args.self.now.list in
+    let book : List Rule = (g.B.RuleBook.meaning c.args.book.now).rules in
+    sym (count_all (vec_items places) book c.rules-rules.result c.loop-count.count c.index.result.now c.args.self.now.rises c.loop-count-test.true (omega (arith, places.ok.0, c.loop-count.invariant.1)) c.rules-rules.ensures (omega (arith, c.index.ensures, c.if-index-rules.false)))
+    ∙ c.loop-count.invariant.0

@@ -1,7 +1,5 @@
-use Rattle.std.proofs.Common.{◌∷◌, [], ℕ, length, suc-mul, arith}
-use Rattle.std.proofs.lemmas.List.Sums.{length-filter, count_by-le-length}
-use Rattle.lock.specs.Locked.{free}
-use Rattle.allowance.proofs.Kept.{first_count}
+use Rattle.std.proofs.Common.{ℕ, length, vec_items, suc-mul, arith}
+use Rattle.lock.specs.Formed.{picks_few}
 use Rattle.allowance.specs.Levels.{fits_parts, length-leveled}
 use Rattle.allowance.proofs.allowance.levels.LevelsRuleBook.rules.Goals as goal
 
@@ -10,8 +8,8 @@ overflow_add-result g c =
     let l = c.args.self.now in
     let b = g.B.RuleBook.meaning l.below.now in
     let A : ℕ = l.setting.most in
-    let fewer = count_by-le-length (free (l.setting.key ∷ [])) b.rules in
-    grind (arith, first_count l, length-filter (free (l.setting.key ∷ [])) b.rules, fewer, suc-mul A (length b.rules), (fits_parts A b l.fit).1)
+    let fewer = picks_few 0 (vec_items l.first.now.list) b.rules l.first.now.rises in
+    grind (arith, fewer, suc-mul A (length b.rules), (fits_parts A b l.fit).1)
 
 pub returns : goal.returns
-returns g c = grind (arith, length-leveled, first_count c.args.self.now)
+returns g c = grind (arith, length-leveled)
