@@ -7,8 +7,9 @@ use Rattle.rulebook.specs.Book.{Book}
 use Rattle.lock.specs.Narrower.{Narrower}
 use Rattle.allowance.specs.Allowance.{allowance_book, setting_of}
 use Rattle.allowance.specs.Allowed.{allowed, allowance, fits, in_force, under}
-use Rattle.allowance.specs.Life.{Lived, Sets, AlwaysAllows}
+use Rattle.allowance.specs.Life.{Lived, Kept, Sets, AlwaysLists, AlwaysAllows}
 use Rattle.allowance.specs.Life.Lived.{made, sets, follows}
+use Rattle.allowance.specs.Life.Kept.{made as kept-made, sets as kept-sets, follows as kept-follows}
 use Rattle.allowance.specs.declared.allowance.Allowance.{Allowance}
 use Rattle.allowance.specs.declared.refusal.SettingRefusal.{SettingRefusal}
 use Rattle.allowance.specs.declared.setting.Setting.{Setting}
@@ -28,27 +29,37 @@ module _ {B : Type 0} (m : B → Book) where
       let still = counts_on s.setting (m s.below) (m t.below) n (counts s l) in
       grind (arith, h.setting, still)
 
-  -- and the allowance means the book below under it
+  -- an allowance means the book below under its setting
   abbrev Means : Allowance B → Type 0
   Means s = allowance_book m s ≡ allowance s.setting (m s.below)
 
-  means_set : (s : Allowance B) (key A : ℕ) (r : Result ℕ SettingRefusal) (t : Allowance B) → Means s → in_force t.setting (m t.below) ≡ t.setting → Sets m s key A r t → Means t
-  means_set s key A r t before counted h =
+  means_set : (s : Allowance B) (key A : ℕ) (r : Result ℕ SettingRefusal) (t : Allowance B) → Means s → Sets m s key A r t → Means t
+  means_set s key A r t before h =
       ⊎_elim
       (λ ok.
       let stored : t.setting ≡ Some (setting_of key A) = h.setting ∙ cond-true (is_ok r) (Some (setting_of key A)) s.setting ok in
+      let counted : in_force t.setting (m t.below) ≡ t.setting = grind (arith, nat_tests, ok, h.value, h.below, stored) in
       h.meaning ok ∙ sym (ap (λ (o : Option Setting). under o (m t.below)) (counted ∙ stored) ∙ ap (λ (b : B). allowed key A (m b)) h.below))
       (λ refused. subst Means (sym (h.same refused)) before)
       (cases_Bool (is_ok r))
 
-  means : (s : Allowance B) → Lived m s → Means s
-  means u (made book s h) = h.meaning ∙ ap m (sym h.below) ∙ ap (λ (o : Option Setting). allowance o (m s.below)) (sym h.setting)
-  means u (sets s key A r t l h) = means_set s key A r t (means s l) (counts t (sets s key A r t l h)) h
-  means u (follows s r t l h n) =
+  means : (s : Allowance B) → Kept m s → Means s
+  means u (kept-made book s h) = h.meaning ∙ ap m (sym h.below) ∙ ap (λ (o : Option Setting). allowance o (m s.below)) (sym h.setting)
+  means u (kept-sets s key A r t k h) = means_set s key A r t (means s k) h
+  means u (kept-follows s r t k h) =
       ⊎_elim
       (λ ok. h.meaning ok ∙ ap (λ (o : Option Setting). allowance o (m t.below)) (sym h.setting))
-      (λ refused. subst Means (sym (h.same refused)) (means s l))
+      (λ refused. subst Means (sym (h.same refused)) (means s k))
       (cases_Bool (is_ok r))
 
+  pub always_lists : AlwaysLists m
+  always_lists s k = record { places = means s k; counted = λ x is fit. means s k ∙ grind (arith, is, fit) }
+
+  -- a life in which the book below only loses rules is one of those
+  kept : (s : Allowance B) → Lived m s → Kept m s
+  kept u (made book s h) = kept-made book s h
+  kept u (sets s key A r t l h) = kept-sets s key A r t (kept s l) h
+  kept u (follows s r t l h n) = kept-follows s r t (kept s l) h
+
   pub always_allows : AlwaysAllows m
-  always_allows s l = means s l ∙ ap (λ (o : Option Setting). under o (m s.below)) (counts s l)
+  always_allows s l = means s (kept s l) ∙ ap (λ (o : Option Setting). under o (m s.below)) (counts s l)

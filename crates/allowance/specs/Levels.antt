@@ -12,7 +12,7 @@ use Rattle.std.proofs.lemmas.Grind.{common_steps}
 use Rattle.rulebook.specs.Book.{Book, Rule, AnswerFits, RuleFits, WellFormed}
 use Rattle.rulebook.specs.declared.told.Answer.{Answer}
 use Rattle.allowance.specs.Allowance.{under_at}
-use Rattle.allowance.specs.Allowed.{leveled, allowed, allowed_at, fits, in_force}
+use Rattle.allowance.specs.Allowed.{leveled, allowed, allowed_at, fits, in_force, under, allowance}
 use Rattle.lock.specs.Formed.{picks_few, picks_all}
 use Rattle.lock.specs.Locked.{free, locked}
 use Rattle.lock.specs.Places.{rises_from, picks}
@@ -109,3 +109,9 @@ pub allowance_formed : (places : List ℕ) (s : Option Setting) (b : Book) → r
 allowance_formed places None b rises formed = formed
 allowance_formed places (Some s) b rises formed =
     cond_both (fits s.most b) (Some s) None (λ o. WellFormed (under_at places o b)) (λ e. allowed_at_formed s.key s.most b e formed places rises) (λ e. formed)
+
+-- and so is a book under a setting, by the definition alone
+pub setting_formed : (s : Option Setting) (b : Book) → WellFormed b → WellFormed (allowance s b)
+setting_formed None b formed = formed
+setting_formed (Some s) b formed =
+    cond_both (fits s.most b) (Some s) None (λ o. WellFormed (under o b)) (λ e. allowed_formed s.key s.most b e formed) (λ e. formed)

@@ -5,9 +5,10 @@ use Rattle.rulebook.specs.Book.{Book}
 use Rattle.lock.specs.Narrower.{Narrower}
 use Rattle.lock.specs.declared.refusal.LockRefusal.{LockRefusal}
 use Rattle.allowance.specs.Allowance.{allowance_book, setting_of}
-use Rattle.allowance.specs.Allowed.{allowed, under, allowance, set_answer}
+use Rattle.allowance.specs.Allowed.{allowed, under, allowance, fits, set_answer}
 use Rattle.allowance.specs.declared.allowance.Allowance.{Allowance}
 use Rattle.allowance.specs.declared.refusal.SettingRefusal.{SettingRefusal}
+use Rattle.allowance.specs.declared.setting.Setting.{Setting}
 
 -- m says what the book below means
 module _ {B : Type 0} (m : B → Book) where
@@ -36,6 +37,21 @@ module _ {B : Type 0} (m : B → Book) where
     made : (book : B) (s : Allowance B) → Made book s → Lived s
     sets : (s : Allowance B) (key A : ℕ) (r : Result ℕ SettingRefusal) (t : Allowance B) → Lived s → Sets s key A r t → Lived t
     follows : (s : Allowance B) (r : Result ℕ LockRefusal) (t : Allowance B) → Lived s → Follows s r t → Narrower (m s.below) (m t.below) → Lived t
+
+  -- The same, whatever becomes of the book below, which need not only lose rules.
+  pub data Kept : Allowance B → Type 0 where
+    made : (book : B) (s : Allowance B) → Made book s → Kept s
+    sets : (s : Allowance B) (key A : ℕ) (r : Result ℕ SettingRefusal) (t : Allowance B) → Kept s → Sets s key A r t → Kept t
+    follows : (s : Allowance B) (r : Result ℕ LockRefusal) (t : Allowance B) → Kept s → Follows s r t → Kept t
+
+  -- What an allowance keeps lists the book below under its setting, and while the setting fits that is the book below with the key counted down.
+  pub record Lists (s : Allowance B) : Type 0 where
+    pub places : allowance_book m s ≡ allowance s.setting (m s.below)
+    pub counted : (x : Setting) → s.setting ≡ Some x → fits x.most (m s.below) ≡ true → allowance_book m s ≡ allowed x.key x.most (m s.below)
+
+-- So it is with every allowance, whatever was called and whatever became of the book below.
+abbrev pub AlwaysLists : {B : Type 0} → (B → Book) → Type 0
+AlwaysLists {B} m = (s : Allowance B) → Kept m s → Lists m s
 
 -- Whatever was called, an allowance means the book below with its key counted down as it is set, or the book below where it is not set: a setting that fitted goes on to fit.
 abbrev pub AlwaysAllows : {B : Type 0} → (B → Book) → Type 0

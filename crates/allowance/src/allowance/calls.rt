@@ -1,7 +1,7 @@
 // Making an allowance, setting it, and locking a key in a lock below it.
 ghost use Rattle.std.specs.Prelude.{◌≡◌, IfOk, IfErr};
 ghost use Rattle.allowance.specs.Allowed.{allowance};
-ghost use Rattle.allowance.specs.Life.{Made, Sets, Follows, AlwaysAllows};
+ghost use Rattle.allowance.specs.Life.{Made, Sets, Follows, AlwaysLists, AlwaysAllows};
 ghost use Rattle.lock.specs.Locking.{Locks};
 
 use crate::allowance::Allowance;
@@ -14,10 +14,11 @@ use std::alloc::{AllocFailed, Global};
 impl<B: RuleBook> Allowance<B> {
     // An allowance over this book, not set: it lists what the book lists. Where memory is wanting the book comes back.
     // Whatever is called then, an allowance means the book below it under its setting, and a setting that fitted goes on to fit.
-    #[tactic(auto, using(crate::proofs::Lives::always_allows))]
+    #[tactic(auto, using(crate::proofs::Lives::always_lists, crate::proofs::Lives::always_allows))]
     pub fn new(heap: Global, below: B) -> Result<Allowance<B>, AllocFailed<B>>
         ensures made { IfOk result (λ s. Made B.meaning below s) }
         ensures refused { IfErr result (λ y. y.value ≡ below) }
+        ensures lists { AlwaysLists B.meaning }
         ensures lived { AlwaysAllows B.meaning }
     {
         // By `map_err` a closure would hold the book, which asks `B: Drop` of callers.
