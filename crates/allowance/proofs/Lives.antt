@@ -7,9 +7,8 @@ use Rattle.rulebook.specs.Book.{Book}
 use Rattle.lock.specs.Narrower.{Narrower}
 use Rattle.allowance.specs.Allowance.{allowance_book, setting_of}
 use Rattle.allowance.specs.Allowed.{allowed, allowance, fits, in_force, under}
-use Rattle.allowance.specs.Life.{Lived, Kept, Sets, AlwaysLists, AlwaysAllows}
-use Rattle.allowance.specs.Life.Lived.{made, sets, follows}
-use Rattle.allowance.specs.Life.Kept.{made as kept-made, sets as kept-sets, follows as kept-follows}
+use Rattle.allowance.specs.Life.{Lived, LivedOver, Sets, AlwaysLists, AlwaysAllows}
+use Rattle.allowance.specs.Life.LivedOver.{made, sets, follows}
 use Rattle.allowance.specs.declared.allowance.Allowance.{Allowance}
 use Rattle.allowance.specs.declared.refusal.SettingRefusal.{SettingRefusal}
 use Rattle.allowance.specs.declared.setting.Setting.{Setting}
@@ -43,23 +42,19 @@ module _ {B : Type 0} (m : B → Book) where
       (λ refused. subst Means (sym (h.same refused)) before)
       (cases_Bool (is_ok r))
 
-  means : (s : Allowance B) → Kept m s → Means s
-  means u (kept-made book s h) = h.meaning ∙ ap m (sym h.below) ∙ ap (λ (o : Option Setting). allowance o (m s.below)) (sym h.setting)
-  means u (kept-sets s key A r t k h) = means_set s key A r t (means s k) h
-  means u (kept-follows s r t k h) =
+  means : (R : Book → Book → Type 0) (s : Allowance B) → LivedOver m R s → Means s
+  means R u (made book s h) = h.meaning ∙ ap m (sym h.below) ∙ ap (λ (o : Option Setting). allowance o (m s.below)) (sym h.setting)
+  means R u (sets s key A r t l h) = means_set s key A r t (means R s l) h
+  means R u (follows s r t l h n) =
       ⊎_elim
       (λ ok. h.meaning ok ∙ ap (λ (o : Option Setting). allowance o (m t.below)) (sym h.setting))
-      (λ refused. subst Means (sym (h.same refused)) (means s k))
+      (λ refused. subst Means (sym (h.same refused)) (means R s l))
       (cases_Bool (is_ok r))
 
   pub always_lists : AlwaysLists m
-  always_lists s k = record { places = means s k; counted = λ x is fit. means s k ∙ grind (arith, is, fit) }
-
-  -- a life in which the book below only loses rules is one of those
-  kept : (s : Allowance B) → Lived m s → Kept m s
-  kept u (made book s h) = kept-made book s h
-  kept u (sets s key A r t l h) = kept-sets s key A r t (kept s l) h
-  kept u (follows s r t l h n) = kept-follows s r t (kept s l) h
+  always_lists s l =
+      let means : Means s = means (λ before after. Unit) s l in
+      record { places = means; counted = λ x is fit. means ∙ grind (arith, is, fit) }
 
   pub always_allows : AlwaysAllows m
-  always_allows s l = means s (kept s l) ∙ ap (λ (o : Option Setting). under o (m s.below)) (counts s l)
+  always_allows s l = means Narrower s l ∙ ap (λ (o : Option Setting). under o (m s.below)) (counts s l)

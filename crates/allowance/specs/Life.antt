@@ -1,5 +1,4 @@
 -- The life of an allowance: it is made, and then set, and keys are locked below it, in any order and any number of times, refusals included.
--- Below it a book changes by locks alone, which leave out rules and change nothing else.
 use Rattle.std.specs.Prelude.{◌≡◌, ℕ, true, false, cond, is_ok, Some, None, Result}
 use Rattle.rulebook.specs.Book.{Book}
 use Rattle.lock.specs.Narrower.{Narrower}
@@ -32,17 +31,15 @@ module _ {B : Type 0} (m : B → Book) where
     pub meaning : is_ok r ≡ true → allowance_book m after ≡ allowance before.setting (m after.below)
     pub same : is_ok r ≡ false → after ≡ before
 
-  -- The allowances that come of any calls: each step is what the contract of that call says.
-  pub data Lived : Allowance B → Type 0 where
-    made : (book : B) (s : Allowance B) → Made book s → Lived s
-    sets : (s : Allowance B) (key A : ℕ) (r : Result ℕ SettingRefusal) (t : Allowance B) → Lived s → Sets s key A r t → Lived t
-    follows : (s : Allowance B) (r : Result ℕ LockRefusal) (t : Allowance B) → Lived s → Follows s r t → Narrower (m s.below) (m t.below) → Lived t
+  -- The allowances that come of any calls, where R holds of the book below before and after each call below: each step is what the contract of that call says.
+  pub data LivedOver (R : Book → Book → Type 0) : Allowance B → Type 0 where
+    made : (book : B) (s : Allowance B) → Made book s → LivedOver R s
+    sets : (s : Allowance B) (key A : ℕ) (r : Result ℕ SettingRefusal) (t : Allowance B) → LivedOver R s → Sets s key A r t → LivedOver R t
+    follows : (s : Allowance B) (r : Result ℕ LockRefusal) (t : Allowance B) → LivedOver R s → Follows s r t → R (m s.below) (m t.below) → LivedOver R t
 
-  -- The same, whatever becomes of the book below, which need not only lose rules.
-  pub data Kept : Allowance B → Type 0 where
-    made : (book : B) (s : Allowance B) → Made book s → Kept s
-    sets : (s : Allowance B) (key A : ℕ) (r : Result ℕ SettingRefusal) (t : Allowance B) → Kept s → Sets s key A r t → Kept t
-    follows : (s : Allowance B) (r : Result ℕ LockRefusal) (t : Allowance B) → Kept s → Follows s r t → Kept t
+  -- Those below which a book changes by locks alone, which leave out rules and change nothing else.
+  abbrev pub Lived : Allowance B → Type 0
+  Lived s = LivedOver Narrower s
 
   -- What an allowance keeps lists the book below under its setting, and while the setting fits that is the book below with the key counted down.
   pub record Lists (s : Allowance B) : Type 0 where
@@ -51,7 +48,7 @@ module _ {B : Type 0} (m : B → Book) where
 
 -- So it is with every allowance, whatever was called and whatever became of the book below.
 abbrev pub AlwaysLists : {B : Type 0} → (B → Book) → Type 0
-AlwaysLists {B} m = (s : Allowance B) → Kept m s → Lists m s
+AlwaysLists {B} m = (s : Allowance B) → LivedOver m (λ before after. Unit) s → Lists m s
 
 -- Whatever was called, an allowance means the book below with its key counted down as it is set, or the book below where it is not set: a setting that fitted goes on to fit.
 abbrev pub AlwaysAllows : {B : Type 0} → (B → Book) → Type 0

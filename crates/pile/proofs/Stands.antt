@@ -10,7 +10,7 @@ use Rattle.lock.specs.declared.lock.Lock.{Lock}
 use Rattle.lock.proofs.Lives.{always_lists, only_leaves_out, same_below}
 use Rattle.allowance.specs.Allowed.{under}
 use Rattle.allowance.specs.Life.{Lived as AllowanceLived}
-use Rattle.allowance.specs.Life.Lived.{made as allowance_made, sets as allowance_sets, follows as allowance_follows}
+use Rattle.allowance.specs.Life.LivedOver.{made as allowance_made, sets as allowance_sets, follows as allowance_follows}
 use Rattle.allowance.proofs.Lives.{always_allows}
 use Rattle.pile.specs.Life.{PileLived, PileStands}
 use Rattle.pile.specs.Life.PileLived.{made, sets, locks}
