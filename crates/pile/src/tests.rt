@@ -143,6 +143,22 @@ fn a_pile_over_any_book_is_held(rt: HostRuntime) -> Result<(), Fail> {
 }
 
 #[test]
+fn levels_of_a_pile(rt: HostRuntime) -> Result<(), Fail> {
+    let heap = rt.alloc();
+    let all = lines(heap, &plan(&PLAN))?;
+    let mut pile = over(heap, plan(&PLAN))?;
+    assert_eq!(rt; pile.set(3, 255), Err(SettingRefusal::DoesNotFit));
+    assert_eq!(rt; lines(heap, &pile)?, all);
+    assert_eq!(rt; pile.set(3, 2), Ok(6));
+    assert_eq!(rt; pile.lock_below(2), Ok(1));
+    assert_eq!(rt; pile.set(64, 1), Err(SettingRefusal::NoSuchKey));
+    assert_eq!(rt; pile.lock_below(2), Err(LockRefusal::AlreadyLocked));
+    let below = without(heap, &all, 2)?;
+    assert_eq!(rt; lines(heap, &pile)?, counted(heap, &below, 3, 2)?);
+    Ok(())
+}
+
+#[test]
 fn key_3_locked(rt: HostRuntime) -> Result<(), Fail> {
     let mut pile = over(rt.alloc(), plan(&PLAN))?;
     assert_eq!(rt; pile.lock_below(3), Ok(1));

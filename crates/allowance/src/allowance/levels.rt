@@ -1,8 +1,10 @@
 // The levels of an allowance: the rules below with none left, and then all of them with 1 left, with 2, and so on.
-ghost use Rattle.std.specs.Prelude.{◌≡◌, ◌<◌, ◌≤◌, true, MatchOption};
+ghost use Rattle.std.specs.Prelude.{◌≡◌, ◌<◌, ◌≤◌, true, Some, None, MatchOption};
+ghost use Rattle.std.specs.Option.{IfSome};
 ghost use Rattle.allowance.specs.Allowance.{allowance_book, Comes};
-ghost use Rattle.allowance.specs.Allowed.{allowed_at, fits};
+ghost use Rattle.allowance.specs.Allowed.{allowed, allowed_at, fits, in_force};
 ghost use Rattle.allowance.specs.Levels.{allowed_at_formed};
+ghost use Rattle.allowance.specs.Life.{LivedOver};
 ghost use Rattle.allowance.specs.Moved.{mode_with};
 
 use crate::allowance::Allowance;
@@ -21,8 +23,12 @@ pub(super) struct Levels<'a, B: RuleBook> {
 
 impl<B: RuleBook> Allowance<B> {
     // The levels that count: none before any setting, or where it does not fit the book below.
+    // Where the allowance has lived, whatever was called and whatever became of the book below, its levels mean that book with the set key counted down.
+    #[tactic(auto, using(crate::proofs::Lives::always_lists))]
     pub(super) fn levels(&self) -> Option<Levels<'_, B>>
-        ensures { MatchOption result (allowance_book B.meaning self.now ≡ B.meaning self.now.below) (λ l. allowance_book B.meaning self.now ≡ ⟦<Levels<'static, B> as RuleBook>⟧.meaning l) }
+        ensures counts { MatchOption result (in_force self.now.setting (B.meaning self.now.below) ≡ None) (λ l. (in_force self.now.setting (B.meaning self.now.below) ≡ Some l.setting) × (B.meaning l.below.now ≡ B.meaning self.now.below)) }
+        ensures meaning { MatchOption result (allowance_book B.meaning self.now ≡ B.meaning self.now.below) (λ l. allowance_book B.meaning self.now ≡ ⟦<Levels<'static, B> as RuleBook>⟧.meaning l) }
+        ensures allowed { LivedOver B.meaning (λ before after. Unit) self.now → IfSome result (λ l. ⟦<Levels<'static, B> as RuleBook>⟧.meaning l ≡ allowed l.setting.key l.setting.most (B.meaning l.below.now)) }
     {
         let setting = self.setting.filter(|setting| setting.fits(&self.below))?;
         Some(Levels {
