@@ -150,6 +150,7 @@ fn levels_of_a_pile(rt: HostRuntime) -> Result<(), Fail> {
     assert_eq!(rt; pile.set(3, 255), Err(SettingRefusal::DoesNotFit));
     assert_eq!(rt; lines(heap, &pile)?, all);
     assert_eq!(rt; pile.set(3, 2), Ok(6));
+    assert_eq!(rt; lines(heap, &pile)?, counted(heap, &all, 3, 2)?);
     assert_eq!(rt; pile.lock_below(2), Ok(1));
     assert_eq!(rt; pile.set(64, 1), Err(SettingRefusal::NoSuchKey));
     assert_eq!(rt; pile.lock_below(2), Err(LockRefusal::AlreadyLocked));
